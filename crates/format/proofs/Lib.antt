@@ -1,0 +1,11 @@
+pub mod Lists
+pub mod Bytes
+pub mod Codings
+pub mod Trees
+pub mod Spans
+pub mod Tags
+pub mod NameLaws
+pub mod TypeLaws
+pub mod DataLaws
+pub mod QueryLaws
+pub mod RequestLaws

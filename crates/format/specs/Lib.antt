@@ -1,0 +1,4 @@
+pub mod Coding
+pub mod Wire
+pub mod Reading
+pub mod Heads
