@@ -163,7 +163,7 @@ pub raw-some : (k : ℕ) → (t : List ℕ) × raw k .Fits t
 raw-some k = (replicate k 0, (length-replicate {A = ℕ} k 0, bytes-zeros k))
 
 -- a name is its length and as many bytes
-pub name-splits : Splits name (number 4) raw
+abbrev pub name-splits : Splits name (number 4) raw
 name-splits =
     record {
       make = λ k t. t;
@@ -176,7 +176,7 @@ pub name-way : One-way name
 name-way = way-both name (number 4) raw name-splits (number-way 4) raw-way
 
 -- a counted run is its count and as many
-pub counted-splits : (S : Coding) → Splits (counted S) (number 4) (λ k. many S k)
+abbrev pub counted-splits : (S : Coding) → Splits (counted S) (number 4) (λ k. many S k)
 counted-splits S =
     record {
       make = λ k xs. xs;
@@ -186,7 +186,7 @@ counted-splits S =
     }
 
 -- one thing and then another
-pub both-splits : (A B : Coding) → Splits (both-of A B) A (λ a. B)
+abbrev pub both-splits : (A B : Coding) → Splits (both-of A B) A (λ a. B)
 both-splits A B = record { make = λ a b. (a, b); fits = λ a b f g. (f, g); written = λ a b f g. refl; out = λ p f. record { a = p .0; b = p .1; a-fits = f .0; b-fits = f .1; is = refl } }
 
 -- all of the bytes are one thing, or they are garbled

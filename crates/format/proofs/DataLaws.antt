@@ -4,17 +4,20 @@ use mathlib.Core.Bool.{Bool, true, false}
 use mathlib.Core.List.{List, [], _∷_, _++_}
 use Prim.Native.Nat.{ℕ, zero, suc, _+_, _^_, _≤_, _<_}
 use native.Mathlib.Omega.{arith}
-use lib.ListN.{length}
+use lib.ListN.{length, getD}
 use Rattle.std.proofs.shelf.Lists.{append-assoc, append-nil}
 use Rattle.query.specs.Data.{Name, Data, unit, num, truth, text, bag, rec, left, right, Datas, none, more, Fields, no-field, field, how-many}
 use Rattle.format.specs.Coding.{Coding, le, number, name, writes, All-fit, many, counted}
 use Rattle.format.specs.Wire.{names, write-names, truth-tag, write-data, write-datas, write-values, Fits-data, Fits-datas, Fits-values, data-of}
 use Rattle.format.specs.Heads.{as-datas, as-fields, Data-head, unit-h, num-h, truth-h, text-h, bag-h, rec-h, left-h, right-h, write-data-head, Fits-data-head, data-heads, data-arity, first-datum, build-data}
-use Rattle.format.specs.Reading.{One-way}
-use Rattle.format.proofs.Lists.{bytes-none}
+use Rattle.query.specs.Types.{bytes}
+use Rattle.format.specs.Reading.{One-way, Begins, Stuck}
+use Rattle.format.specs.Nodes.{Node-read, Tells-data}
+use Rattle.format.specs.declared.node.DataNode.{DataNode}
+use Rattle.format.proofs.Lists.{bytes-none, from}
 use Rattle.format.proofs.Codings.{Splits, Out, number-way, name-way}
 use Rattle.format.proofs.Trees.{Laws}
-use Rattle.format.proofs.Tags.{Table, end, row, alone, entry, Good, Tagged, plain-way, heads-way, heads-long}
+use Rattle.format.proofs.Tags.{Table, end, row, alone, entry, Good, Tagged, plain-way, heads-way, heads-long, node-alone, node-begins, head-stuck, stuck-tag, stuck-empty}
 use Rattle.format.proofs.NameLaws.{names-way}
 
 abbrev pub data-table : Table data-heads
@@ -186,3 +189,24 @@ data-laws =
       leaf-fits = tt;
       leaf-alone = refl
     }
+
+-- what the code reads in front of a datum
+module _ (xs : List ℕ) (b : bytes xs ≡ true) where
+  pub data-alone : (t k : ℕ) (node : DataNode) (l : entry data-table t .load .T) → 0 < length xs → getD xs 0 0 ≡ t → t < 256 → entry data-table t .load .Fits l → entry data-table t .load .write l ≡ []
+    → Tells-data node (entry data-table t .make l) → k ≡ data-arity (entry data-table t .make l) → k < 2 ^ 32 → Node-read data-heads data-arity Tells-data xs node k 1
+  data-alone t k node l n = node-alone data-heads data-table data-good (omega arith) data-tagged data-arity Tells-data xs t k node l b n
+
+  pub data-begins : (t k f e : ℕ) (node : DataNode) (l : entry data-table t .load .T) → 0 < length xs → getD xs 0 0 ≡ t → t < 256 → Begins (entry data-table t .load) (from 1 xs) f l → e ≡ 1 + f
+    → Tells-data node (entry data-table t .make l) → k ≡ data-arity (entry data-table t .make l) → k < 2 ^ 32 → Node-read data-heads data-arity Tells-data xs node k e
+  data-begins t k f e node l n = node-begins data-heads data-table data-good (omega arith) data-tagged data-arity Tells-data xs t k f e node l b n
+
+  pub data-stuck : (t p e : ℕ) → 0 < length xs → getD xs 0 0 ≡ t → t < 256 → Stuck (entry data-table t .load) (from 1 xs) p → e ≡ 1 + p → Stuck data-heads xs e
+  data-stuck t p e n = head-stuck data-heads data-table data-good (omega arith) data-tagged xs t p e b n
+
+  pub data-no-tag : 0 < length xs → 9 ≤ getD xs 0 0 → Stuck data-heads xs 0
+  unfolding Fits-data-head
+  data-no-tag = stuck-tag data-heads data-table data-good (omega arith) data-tagged unit-h tt xs
+
+  pub data-empty : length xs ≡ 0 → Stuck data-heads xs 0
+  unfolding Fits-data-head
+  data-empty = stuck-empty data-heads data-table data-good (omega arith) data-tagged unit-h tt xs

@@ -5,6 +5,8 @@ use mathlib.Core.List.{List, [], _∷_, _++_}
 use Prim.Native.Nat.{ℕ, zero, suc, _+_, _-_, _≤_, _<_}
 use native.Mathlib.Omega.{arith}
 use lib.Dec.{ltb}
+use mir.Syntax.{w8}
+use mir.Val.{Fits}
 use lib.ListN.{length, getD, take, drop, replicate, length-drop}
 use lib.Seq.{take-add, drop-drop, length-take-le}
 use borrow.Author.Tests.{ltb-true, lt-ltb}
@@ -46,11 +48,23 @@ from i xs = take (length xs - i) (drop i xs)
 pub from-drop : (i : ℕ) (xs : List ℕ) → from i xs ≡ drop i xs
 from-drop i xs = take-rest xs i
 
+-- the first four of a list
+pub take-four : (xs : List ℕ) → 4 ≤ length xs → take 4 xs ≡ getD xs 0 0 ∷ getD xs 1 0 ∷ getD xs 2 0 ∷ getD xs 3 0 ∷ []
+take-four [] h = absurd (omega arith)
+take-four (a ∷ []) h = absurd (omega arith)
+take-four (a ∷ b ∷ []) h = absurd (omega arith)
+take-four (a ∷ b ∷ c ∷ []) h = absurd (omega arith)
+take-four (a ∷ b ∷ c ∷ d ∷ xs) h = refl
+
 -- lists of bytes
 pub bytes-at : (xs : List ℕ) → ((j : ℕ) → getD xs j 0 < 256) → bytes xs ≡ true
 unfolding bytes
 bytes-at [] f = refl
 bytes-at (x ∷ xs) f = ap₂ (λ (a : Bool) (b : Bool). a && b) (lt-ltb x 256 (f 0)) (bytes-at xs (λ j. f (suc j)))
+
+-- what the code hands on of its bytes: each fits in eight bits
+pub bytes-typed : (xs : List ℕ) → ((j : ℕ) → Fits w8 (getD xs j 0)) → bytes xs ≡ true
+bytes-typed xs f = bytes-at xs (λ j. omega (arith, f j))
 
 pub bytes-none : bytes [] ≡ true
 unfolding bytes

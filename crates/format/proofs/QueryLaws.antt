@@ -1,20 +1,24 @@
 -- Queries are trees, and their heads are told by their tags.
 use mathlib.Core.Path.{_≡_, refl, sym, ap, ap₂, subst, _∙_}
+use mathlib.Core.Bool.{true}
 use mathlib.Core.List.{List, [], _∷_, _++_}
 use Prim.Native.Nat.{ℕ, zero, suc, _+_, _^_, _≤_, _<_}
 use native.Mathlib.Omega.{arith}
-use lib.ListN.{length}
-use Rattle.std.proofs.shelf.Lists.{append-assoc, append-nil}
+use lib.ListN.{length, getD, take}
+use Rattle.std.proofs.shelf.Lists.{append-assoc, append-nil, drop-more}
 use Rattle.query.specs.Data.{Name, Data, unit}
 use Rattle.query.specs.Query.{Op2, equal, and, or, plus, less, join-bags, join-recs, within, Op1, not-so, in-bag, flat, count, sum, distinct, dot, as-field, without, project, Ty, a-unit, Query, table, it, env, just, two, one, each, keep, product, matched, default, as-left, as-right, either, then, with-env}
 use Rattle.format.specs.Coding.{Coding, le, number, name, writes, All-fit, many, counted, both-of}
 use Rattle.format.specs.Wire.{write-names, write-ty, Fits-ty, write-data, Fits-data, tag-2, write-1, Fits-1, write-query, Fits-query, types, data-of, queries}
 use Rattle.format.specs.Heads.{Query-head, table-q, it-q, env-q, just-q, two-q, one-q, each-q, keep-q, product-q, matched-q, default-q, left-q, right-q, either-q, then-q, with-env-q, write-query-head, Fits-query-head, query-heads, query-arity, first-query, second-query, build-query, ty-heads, ty-arity, data-heads, data-arity}
-use Rattle.format.specs.Reading.{One-way}
-use Rattle.format.proofs.Lists.{bytes-none}
+use Rattle.query.specs.Types.{bytes}
+use Rattle.format.specs.Reading.{One-way, Begins, Stuck}
+use Rattle.format.specs.Nodes.{Node-read, Tells-query, Plain-head}
+use Rattle.format.specs.declared.node.QueryNode.{QueryNode}
+use Rattle.format.proofs.Lists.{bytes-none, from}
 use Rattle.format.proofs.Codings.{Splits, Out, number-way, name-way, way-both, both-splits}
 use Rattle.format.proofs.Trees.{Laws, tree-way}
-use Rattle.format.proofs.Tags.{Table, end, row, alone, entry, Entry, Good, Good-entry, Tagged, plain-way, heads-way, heads-long}
+use Rattle.format.proofs.Tags.{Table, end, row, alone, entry, Entry, Good, Good-entry, Tagged, plain-way, heads-way, heads-long, node-alone, node-begins, head-stuck, stuck-tag, stuck-empty}
 use Rattle.format.proofs.NameLaws.{names-way}
 use Rattle.format.proofs.TypeLaws.{ty-laws}
 use Rattle.format.proofs.DataLaws.{data-laws}
@@ -252,3 +256,33 @@ query-laws =
 
 pub queries-way : One-way queries
 queries-way = tree-way queries query-heads query-arity query-laws
+
+-- what the code reads in front
+module _ (xs : List ℕ) (b : bytes xs ≡ true) where
+  pub query-alone : (t k : ℕ) (node : QueryNode) (l : entry query-table t .load .T) → 0 < length xs → getD xs 0 0 ≡ t → t < 256 → entry query-table t .load .Fits l → entry query-table t .load .write l ≡ []
+    → Tells-query node (entry query-table t .make l) → k ≡ query-arity (entry query-table t .make l) → k < 2 ^ 32 → Node-read query-heads query-arity Tells-query xs node k 1
+  query-alone t k node l n = node-alone query-heads query-table query-good (omega arith) query-tagged query-arity Tells-query xs t k node l b n
+
+  pub query-begins : (t k f e : ℕ) (node : QueryNode) (l : entry query-table t .load .T) → 0 < length xs → getD xs 0 0 ≡ t → t < 256 → Begins (entry query-table t .load) (from 1 xs) f l → e ≡ 1 + f
+    → Tells-query node (entry query-table t .make l) → k ≡ query-arity (entry query-table t .make l) → k < 2 ^ 32 → Node-read query-heads query-arity Tells-query xs node k e
+  query-begins t k f e node l n = node-begins query-heads query-table query-good (omega arith) query-tagged query-arity Tells-query xs t k f e node l b n
+
+  pub query-stuck : (t p e : ℕ) → 0 < length xs → getD xs 0 0 ≡ t → t < 256 → Stuck (entry query-table t .load) (from 1 xs) p → e ≡ 1 + p → Stuck query-heads xs e
+  query-stuck t p e n = head-stuck query-heads query-table query-good (omega arith) query-tagged xs t p e b n
+
+  pub query-no-tag : 0 < length xs → 32 ≤ getD xs 0 0 → Stuck query-heads xs 0
+  unfolding Fits-query-head
+  query-no-tag = stuck-tag query-heads query-table query-good (omega arith) query-tagged it-q tt xs
+
+  pub query-empty : length xs ≡ 0 → Stuck query-heads xs 0
+  unfolding Fits-query-head
+  query-empty = stuck-empty query-heads query-table query-good (omega arith) query-tagged it-q tt xs
+
+  -- a head that is its tag alone
+  pub plain-read : (node : QueryNode) (k e : ℕ) → 0 < length xs → Plain-head (getD xs 0 0) node k e → Node-read query-heads query-arity Tells-query xs node k e
+  plain-read node k e n h =
+      record {
+        thing = h .head;
+        begins = record { within = omega (arith, h .short); fits = h .fits; is = ap (λ (v : ℕ). take v xs) (h .short) ∙ ap (λ (v : List ℕ). take 1 v) (drop-more xs 0 0 n) ∙ sym (h .written) };
+        says = (h .tells, h .arity, h .few)
+      }

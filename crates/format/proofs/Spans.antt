@@ -64,6 +64,36 @@ module _ (S : Coding) (c : ℕ) where
           u .wrong j ys n rest (s (take (p + 1) (drop e xs) ++ ys) rest .0 (reads-many _ rest us f (sym (ap (λ (i : ℕ). take i xs ++ ys) m ∙ front (p + 1) ys) ∙ q)))
       }
 
+  -- the rest is read at once
+  pub spans-read : (n e f : ℕ) (xs : List ℕ) → e ≤ length xs → Spans S c n (take e xs) → Read (many S n) (drop e xs) f → Read (many S c) xs (e + f)
+  spans-read n e f xs l s r =
+      let b = r .begins in
+      let q = s (take f (drop e xs)) [] .1 record { things = r .thing; fits = b .fits .1; many = b .fits .0; is = b .is ∙ sym (append-nil (writes S (r .thing))) } in
+      record {
+        thing = q .things;
+        begins = record { within = omega (arith, b .within, length-drop e xs); fits = (q .many, q .fits); is = take-add e f xs ∙ q .is ∙ append-nil (writes S (q .things)) }
+      }
+
+  pub spans-cut : (n e p : ℕ) (xs : List ℕ) → e ≤ length xs → Spans S c n (take e xs) → Stuck (many S n) (drop e xs) p → Stuck (many S c) xs (e + p)
+  spans-cut n e p xs l s t =
+      let r = s (take p (drop e xs) ++ t .rest) [] .1 record { things = t .thing; fits = t .fits .1; many = t .fits .0; is = t .goes-on ∙ sym (append-nil (writes S (t .thing))) } in
+      let front : (m : ℕ) (ys : List ℕ) → take (e + m) xs ++ ys ≡ take e xs ++ (take m (drop e xs) ++ ys)
+            = λ m ys. ap (λ (v : List ℕ). v ++ ys) (take-add e m xs) ∙ append-assoc (take e xs) (take m (drop e xs)) ys in
+      let none : (ys : List ℕ) → None-in-front (many S n) ys → None-in-front (many S c) (take e xs ++ ys)
+            = λ ys h us rest f q. let o = s ys rest .0 (reads-many _ rest us f q) in h (o .things) rest (o .many, o .fits) (o .is) in
+      record {
+        within = omega (arith, t .within, length-drop e xs);
+        rest = t .rest;
+        thing = r .things;
+        fits = (r .many, r .fits);
+        goes-on = front p (t .rest) ∙ r .is ∙ append-nil (writes S (r .things));
+        absent = subst (λ (v : List ℕ). None-in-front (many S c) v) (sym (split-at e xs (take e xs) refl)) (none (drop e xs) (t .absent));
+        wrong = λ k ys.
+          let j : p < length (drop e xs) = omega (arith, length-drop e xs) in
+          let m : (e + p) + 1 ≡ e + (p + 1) = omega arith in
+          subst (λ (v : List ℕ). None-in-front (many S c) v) (sym (ap (λ (i : ℕ). take i xs ++ ys) m ∙ front (p + 1) ys)) (none (take (p + 1) (drop e xs) ++ ys) (t .wrong j ys))
+      }
+
 -- one tree is exactly one
 pub one-read : (S : Coding) (xs : List ℕ) (e : ℕ) → Read (many S 1) xs e → Read S xs e
 one-read S xs e r = go (r .thing) (r .begins)
@@ -83,3 +113,12 @@ one-stuck S xs p t = go (t .thing) (t .fits) (t .goes-on)
     go (u ∷ []) f q =
         record { within = t .within; rest = t .rest; thing = u; fits = f .1 .0; goes-on = q ∙ append-nil (S .write u); absent = absent-one xs (t .absent); wrong = λ h ys. absent-one (take (p + 1) xs ++ ys) (t .wrong h ys) }
     go (u ∷ v ∷ us) f q = absurd (omega (arith, f .0))
+
+-- what a head opens
+pub spans-opened : (S : Coding) (xs : List ℕ) (k e : ℕ) → Opened S xs k e → Spans S 1 k (take e xs)
+spans-opened S xs k e o ys rest =
+    let q : k + 0 ≡ k = omega arith in
+    (λ r. same-reads S (k + 0) k ys ys rest q refl (o .opens 0 ys rest .0 r), λ r. o .opens 0 ys rest .1 (same-reads S k (k + 0) ys ys rest (sym q) refl r))
+
+pub unopened-stuck : (S : Coding) (xs : List ℕ) (p : ℕ) → Unopened S xs p → Stuck S xs p
+unopened-stuck S xs p u = one-stuck S xs p (subst (λ (v : ℕ). Stuck (many S 1) xs v) (let z : 0 + p ≡ p = omega arith in z) (spans-stuck S 1 1 0 p xs (omega arith) (omega arith) (spans-none S 1 xs) u))

@@ -9,6 +9,7 @@ use Rattle.std.proofs.shelf.Lists.{append-assoc, append-nil}
 use Rattle.query.specs.Types.{bytes}
 use Rattle.format.specs.Coding.{Coding, tag}
 use Rattle.format.specs.Reading.{Begins, None-in-front, Stuck, One-way}
+use Rattle.format.specs.Nodes.{Node-read}
 use Rattle.format.proofs.Lists.{from, from-drop}
 use Rattle.format.proofs.Codings.{Splits, begins-both, stuck-first, stuck-second, way-both, tag-way, tag-begins, tag-stuck}
 
@@ -118,6 +119,16 @@ module _ (H : Coding) (es : Table H) (good : Good H 0 es) (few : rows es ≤ 256
   -- a head of which nothing follows the tag
   pub head-alone : (xs : List ℕ) (t : ℕ) (l : entry es t .load .T) → bytes xs ≡ true → 0 < length xs → getD xs 0 0 ≡ t → t < 256 → entry es t .load .Fits l → entry es t .load .write l ≡ [] → Begins H xs 1 (entry es t .make l)
   head-alone xs t l b n g h f w = head-begins xs t 0 1 l b n g h record { within = omega arith; fits = f; is = sym w } refl
+
+  -- the same, with what the node says of it
+  module _ (arity : H .T → ℕ) {N : Type 0} (Tells : N → H .T → Type 0) where
+    pub node-alone : (xs : List ℕ) (t k : ℕ) (node : N) (l : entry es t .load .T) → bytes xs ≡ true → 0 < length xs → getD xs 0 0 ≡ t → t < 256 → entry es t .load .Fits l → entry es t .load .write l ≡ []
+      → Tells node (entry es t .make l) → k ≡ arity (entry es t .make l) → k < 2 ^ 32 → Node-read H arity Tells xs node k 1
+    node-alone xs t k node l b n g h f w s a m = record { thing = entry es t .make l; begins = head-alone xs t l b n g h f w; says = (s, a, m) }
+
+    pub node-begins : (xs : List ℕ) (t k f e : ℕ) (node : N) (l : entry es t .load .T) → bytes xs ≡ true → 0 < length xs → getD xs 0 0 ≡ t → t < 256 → Begins (entry es t .load) (from 1 xs) f l → e ≡ 1 + f
+      → Tells node (entry es t .make l) → k ≡ arity (entry es t .make l) → k < 2 ^ 32 → Node-read H arity Tells xs node k e
+    node-begins xs t k f e node l b n g h r q s a m = record { thing = entry es t .make l; begins = head-begins xs t f e l b n g h r q; says = (s, a, m) }
 
   module _ (h₀ : H .T) (f₀ : H .Fits h₀) where
     -- no head has such a tag

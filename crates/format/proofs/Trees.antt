@@ -5,8 +5,9 @@ use Prim.Native.Nat.{ℕ, zero, suc, _+_, _*_, _-_, _^_, _≤_, _<_}
 use native.Mathlib.Omega.{arith}
 use lib.ListN.{length, take, drop, replicate, length-append, length-replicate}
 use Rattle.std.proofs.shelf.Lists.{append-assoc, append-nil}
-use Rattle.format.specs.Coding.{Coding, number, writes, All-fit, many, counted}
+use Rattle.format.specs.Coding.{Coding, number, writes, All-fit, many, counted, Inhabited}
 use Rattle.format.specs.Reading.{Begins, Read, None-in-front, Stuck, One-way, Reads, Opens, Closed, Opened, Unopened}
+use Rattle.format.specs.Nodes.{Node-read}
 use Rattle.format.proofs.Lists.{append-same, none-of, split-at}
 use Rattle.format.proofs.Codings.{Splits, way-both, number-way, counted-splits}
 
@@ -160,6 +161,9 @@ module _ (S H : Coding) (arity : H .T → ℕ) (laws : Laws S H arity) where
   unfolding least
   least-fits = laws .splits .fits (laws .leaf) [] (laws .leaf-fits) (sym (laws .leaf-alone), tt)
 
+  pub inhabited : Inhabited S
+  inhabited = record { thing = least; fits = least-fits }
+
   pub many-some : (k : ℕ) → (us : List (S .T)) × many S k .Fits us
   many-some k = (replicate k least, (length-replicate k least, fits-replicate S k least least-fits))
 
@@ -228,3 +232,7 @@ module _ (S H : Coding) (arity : H .T → ℕ) (laws : Laws S H arity) where
     where
       head-same : (a b : S .T) → a ∷ [] ≡ b ∷ [] → a ≡ b
       head-same a b q = cc
+
+  -- a head that was read opens a tree; one that cannot be read opens none
+  pub node-opened : {N : Type 0} (Tells : N → H .T → Type 0) (xs : List ℕ) (node : N) (k e : ℕ) → Node-read H arity Tells xs node k e → Opened S xs k e
+  node-opened Tells xs node k e r = opened xs e k (r .thing) (r .begins) (r .says .1) (r .says .2)

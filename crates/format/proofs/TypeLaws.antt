@@ -1,19 +1,24 @@
 -- Types are trees, and their heads are told by their tags.
 use mathlib.Core.Path.{_≡_, refl, sym, ap, ap₂, subst, _∙_}
+use mathlib.Core.Bool.{true}
 use mathlib.Core.List.{List, [], _∷_, _++_}
 use Prim.Native.Nat.{ℕ, zero, suc, _+_, _^_, _≤_, _<_}
 use native.Mathlib.Omega.{arith}
-use lib.ListN.{length}
+use lib.ListN.{length, getD}
 use Rattle.std.proofs.shelf.Lists.{append-assoc, append-nil}
 use Rattle.query.specs.Data.{Name}
 use Rattle.query.specs.Query.{Ty, a-unit, a-num, a-truth, a-text, a-bag, a-rec, an-either, Tys, no-ty, ty}
 use Rattle.format.specs.Coding.{Coding, le, name, writes, All-fit, many, counted}
 use Rattle.format.specs.Wire.{names-ty, write-names, write-ty, write-tys, Fits-ty, Fits-tys, types}
 use Rattle.format.specs.Heads.{as-tys, Ty-head, unit-t, num-t, truth-t, text-t, bag-t, rec-t, either-t, write-ty-head, Fits-ty-head, ty-heads, ty-arity, first-ty-of, second-ty-of, build-ty}
-use Rattle.format.specs.Reading.{One-way}
+use Rattle.query.specs.Types.{bytes}
+use Rattle.format.specs.Reading.{One-way, Begins, Stuck}
+use Rattle.format.specs.Nodes.{Node-read, Tells-type}
+use Rattle.format.specs.declared.node.TypeNode.{TypeNode}
+use Rattle.format.proofs.Lists.{from}
 use Rattle.format.proofs.Codings.{Splits, Out}
 use Rattle.format.proofs.Trees.{Laws}
-use Rattle.format.proofs.Tags.{Table, end, row, alone, entry, Good, Tagged, plain-way, heads-way, heads-long}
+use Rattle.format.proofs.Tags.{Table, end, row, alone, entry, Good, Tagged, plain-way, heads-way, heads-long, node-alone, node-begins, head-stuck, stuck-tag, stuck-empty}
 use Rattle.format.proofs.NameLaws.{names-way}
 
 abbrev pub ty-table : Table ty-heads
@@ -146,3 +151,24 @@ ty-laws =
       leaf-fits = tt;
       leaf-alone = refl
     }
+
+-- what the code reads in front
+module _ (xs : List ℕ) (b : bytes xs ≡ true) where
+  pub ty-alone : (t k : ℕ) (node : TypeNode) (l : entry ty-table t .load .T) → 0 < length xs → getD xs 0 0 ≡ t → t < 256 → entry ty-table t .load .Fits l → entry ty-table t .load .write l ≡ []
+    → Tells-type node (entry ty-table t .make l) → k ≡ ty-arity (entry ty-table t .make l) → k < 2 ^ 32 → Node-read ty-heads ty-arity Tells-type xs node k 1
+  ty-alone t k node l n = node-alone ty-heads ty-table ty-good (omega arith) ty-tagged ty-arity Tells-type xs t k node l b n
+
+  pub ty-begins : (t k f e : ℕ) (node : TypeNode) (l : entry ty-table t .load .T) → 0 < length xs → getD xs 0 0 ≡ t → t < 256 → Begins (entry ty-table t .load) (from 1 xs) f l → e ≡ 1 + f
+    → Tells-type node (entry ty-table t .make l) → k ≡ ty-arity (entry ty-table t .make l) → k < 2 ^ 32 → Node-read ty-heads ty-arity Tells-type xs node k e
+  ty-begins t k f e node l n = node-begins ty-heads ty-table ty-good (omega arith) ty-tagged ty-arity Tells-type xs t k f e node l b n
+
+  pub ty-stuck : (t p e : ℕ) → 0 < length xs → getD xs 0 0 ≡ t → t < 256 → Stuck (entry ty-table t .load) (from 1 xs) p → e ≡ 1 + p → Stuck ty-heads xs e
+  ty-stuck t p e n = head-stuck ty-heads ty-table ty-good (omega arith) ty-tagged xs t p e b n
+
+  pub ty-no-tag : 0 < length xs → 7 ≤ getD xs 0 0 → Stuck ty-heads xs 0
+  unfolding Fits-ty-head
+  ty-no-tag = stuck-tag ty-heads ty-table ty-good (omega arith) ty-tagged unit-t tt xs
+
+  pub ty-empty : length xs ≡ 0 → Stuck ty-heads xs 0
+  unfolding Fits-ty-head
+  ty-empty = stuck-empty ty-heads ty-table ty-good (omega arith) ty-tagged unit-t tt xs

@@ -53,3 +53,8 @@ counted S = record { T = List (S .T); write = λ xs. le 4 (length xs) ++ writes 
 -- one thing, and then another
 abbrev pub both-of : Coding → Coding → Coding
 both-of A B = record { T = A .T × B .T; write = λ p. A .write (p .0) ++ B .write (p .1); Fits = λ p. A .Fits (p .0) × B .Fits (p .1) }
+
+-- there is something that fits
+pub record Inhabited (S : Coding) : Type 0 where
+  pub thing : S .T
+  pub fits : S .Fits thing

@@ -2,3 +2,4 @@ pub mod Coding
 pub mod Wire
 pub mod Reading
 pub mod Heads
+pub mod Nodes

@@ -18,6 +18,12 @@ pub record Read (S : Coding) (xs : List ℕ) (e : ℕ) : Type 0 where
   pub thing : S .T
   pub begins : Begins S xs e thing
 
+-- the first e bytes are something of the sort, of which more is said
+pub record Read-as (S : Coding) (xs : List ℕ) (e : ℕ) (Says : S .T → Type 0) : Type 0 where
+  pub thing : S .T
+  pub begins : Begins S xs e thing
+  pub says : Says thing
+
 -- nothing of the sort stands in front
 abbrev pub None-in-front : Coding → List ℕ → Type 0
 None-in-front S xs = (x : S .T) (rest : List ℕ) → S .Fits x → xs ≡ S .write x ++ rest → ⊥

@@ -1,8 +1,9 @@
-// The byte format.
-ghost use mathlib.Core.Path.{_≡_};
-
-pub fn zero() -> u8
-    ensures { λ r. ⌜ r ≡ 0 ⌝ }
-{
-    0
-}
+// The byte format: numbers, names, and the heads of data, types, queries and requests, read from bytes of any length.
+pub mod number;
+pub mod name;
+pub mod sort;
+pub mod node;
+pub mod data;
+pub mod types;
+pub mod queries;
+pub mod requests;

@@ -140,9 +140,9 @@ looks-it (with-env p q) = looks-it p || looks-it q
 unfoldable pub Not-looked-at-it : Type 0
 Not-looked-at-it = (ts : Tables) (q : Query) (e x y : Data) → looks-it q ≡ false → eval ts q e x ≡ eval ts q e y
 
--- no question has two types
+-- a question has one type at most
 unfoldable pub One-type-only : Type 0
-One-type-only = (ss : Schema) (q : Query) (e t u v : Ty) → type-of ss q e t ≡ u ∷ [] → type-of ss q e t ≡ v ∷ [] → u ≡ v
+One-type-only = (ss : Schema) (q : Query) (e t : Ty) → length (type-of ss q e t) ≤ 1
 
 -- the type of a question is sound, where those of the schema, of what goes along and of it are
 unfoldable pub Types-are-sound : Type 0

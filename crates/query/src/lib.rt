@@ -50,7 +50,7 @@ pub fn code_tells_holds() -> u8
     0
 }
 
-// No question has two types.
+// A question has one type at most.
 pub fn one_type_only_holds() -> u8
     ensures { λ _. ⌜ One-type-only ⌝ }
 {
