@@ -7,3 +7,4 @@ pub mod data;
 pub mod types;
 pub mod queries;
 pub mod requests;
+pub mod laws;
