@@ -1,0 +1,2 @@
+// Operators on values, with work counted down from a budget.
+pub mod came;
