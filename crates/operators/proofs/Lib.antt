@@ -1,1 +1,4 @@
-
+pub mod Grows
+pub mod Pays
+pub mod Steps
+pub mod OfKind
