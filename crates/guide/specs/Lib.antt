@@ -1,1 +1,3 @@
 pub mod Guide
+pub mod Marks
+pub mod Visits
