@@ -1,1 +1,6 @@
-
+pub mod Heights
+pub mod TypeHeights
+pub mod Lists
+pub mod Naming
+pub mod TypeNames
+pub mod Widths
