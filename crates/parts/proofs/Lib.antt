@@ -1,0 +1,11 @@
+pub mod Rows
+pub mod Aparts
+pub mod Naming
+pub mod Owns
+pub mod Wholes
+pub mod DataParts
+pub mod TypeParts
+pub mod QueryParts
+pub mod Before
+pub mod Rising
+pub mod Sounds

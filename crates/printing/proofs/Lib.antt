@@ -1,0 +1,2 @@
+mod Escapes
+mod Pieces
