@@ -1,0 +1,6 @@
+pub mod Ranged
+pub mod Things
+pub mod Joining
+pub mod Summing
+pub mod Flattening
+pub mod Distinct

@@ -1,0 +1,2 @@
+pub mod Things
+pub mod Bags
