@@ -1,0 +1,11 @@
+pub mod Spots
+pub mod Starts
+pub mod Words
+pub mod Rows
+pub mod Typed
+pub mod Bags
+pub mod Fields
+pub mod Records
+pub mod Sides
+pub mod Leaves
+pub mod Tabled

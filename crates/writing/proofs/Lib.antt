@@ -1,0 +1,6 @@
+pub mod Fronts
+pub mod Sizes
+pub mod Views
+pub mod Plains
+pub mod Rows
+pub mod Trips
