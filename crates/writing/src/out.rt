@@ -14,6 +14,7 @@ use crate::read::slot;
 use values::value::Place;
 use values::value::Value;
 
+// False and true have tags of their own.
 fn truth_tag(b: bool) -> u64
     ensures { λ r. ⌜ r ≡ truth-tag b ⌝ }
 {
@@ -43,6 +44,7 @@ pub fn write_out(
     }
 }
 
+// A text, which stays in the request's bytes.
 fn write_text(bytes: &[u8], p: Place, out: &mut [u64]) -> Option<usize>
     ensures within { λ r. ⌜ Within (now (out .entry)) r ⌝ }
     ensures means { λ r. ⌜ ((m : List ℕ) → Writes (now (bytes .entry)) m (vs.Text p) (now (out .entry)) (now (out .exit)) r) ⌝ }
@@ -52,6 +54,7 @@ fn write_text(bytes: &[u8], p: Place, out: &mut [u64]) -> Option<usize>
     Some(n + e)
 }
 
+// How many things a bag has, and then these, slot by slot. Once there is no room for one, none after it is looked at.
 fn write_bag(bytes: &[u8], base: &[u64], mem: &[u64], p: Place, out: &mut [u64]) -> Option<usize>
     ensures within { λ r. ⌜ Within (now (out .entry)) r ⌝ }
     ensures means { λ r. ⌜ Writes (now (bytes .entry)) (now (base .entry) ++ now (mem .entry)) (vs.Bag p) (now (out .entry)) (now (out .exit)) r ⌝ }
@@ -101,6 +104,7 @@ fn write_record(bytes: &[u8], base: &[u64], mem: &[u64], p: Place, out: &mut [u6
     Some(n)
 }
 
+// The tag of a side, and then what its slot holds.
 fn write_left(bytes: &[u8], base: &[u64], mem: &[u64], at: usize, out: &mut [u64]) -> Option<usize>
     ensures within { λ r. ⌜ Within (now (out .entry)) r ⌝ }
     ensures means { λ r. ⌜ Writes (now (bytes .entry)) (now (base .entry) ++ now (mem .entry)) (vs.Left at) (now (out .entry)) (now (out .exit)) r ⌝ }
@@ -111,6 +115,7 @@ fn write_left(bytes: &[u8], base: &[u64], mem: &[u64], at: usize, out: &mut [u64
     Some(n + e)
 }
 
+// The same of the other side.
 fn write_right(bytes: &[u8], base: &[u64], mem: &[u64], at: usize, out: &mut [u64]) -> Option<usize>
     ensures within { λ r. ⌜ Within (now (out .entry)) r ⌝ }
     ensures means { λ r. ⌜ Writes (now (bytes .entry)) (now (base .entry) ++ now (mem .entry)) (vs.Right at) (now (out .entry)) (now (out .exit)) r ⌝ }
