@@ -1,4 +1,3 @@
-pub mod Ranged
 pub mod Things
 pub mod Joining
 pub mod Summing

@@ -12,7 +12,7 @@ use Rattle.values.proofs.Frame.{all-kept}
 use Rattle.values.specs.declared.value.Place.{Place}
 use Rattle.values.specs.declared.value.Value.the-variants.{Bag}
 use Rattle.bags.specs.Things.{rest}
-use Rattle.bags.proofs.Ranged.{ranged, ranged-old, grown-ranged, run-ranged}
+use Rattle.values.proofs.Ranged.{ranged, ranged-old, grown-ranged, run-ranged}
 
 -- the slots of a bag that lies there can be read
 pub bag-readable : {bs m : List ℕ} {p : Place} {ds : Datas} {u : Used} {top : ℕ} → Bag-lies bs m p ds u top → Readable p top

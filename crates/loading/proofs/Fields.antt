@@ -11,7 +11,8 @@ use Rattle.values.specs.Memory.{Kept, Stored-field, Used, Under, Grown, Run, Sp
 use Rattle.values.specs.declared.value.Value.{Value}
 use Rattle.values.specs.declared.value.Field.{Field}
 use Rattle.values.proofs.Frame.{kept-agree, holds-kept, fields-kept}
-use Rattle.loading.proofs.Words.{ranged, ranged-old, run-ranged, grown-trans, grown-reserved, grown-refl, apart, under-grown}
+use Rattle.loading.proofs.Words.{run-ranged, grown-trans, grown-reserved, grown-refl, apart, under-grown}
+use Rattle.values.proofs.Ranged.{ranged, ranged-old}
 
 -- one record's fields, and then another's
 unfoldable pub joined : Fields → Fields → Fields

@@ -11,7 +11,8 @@ use Rattle.query.specs.Size.{size-d, size-ds}
 use Rattle.values.specs.Memory.{Kept, Stored, Used, Under, Grown, Run, Holds, HoldsAll, Agree, loaded}
 use Rattle.values.specs.declared.value.Value.{Value}
 use Rattle.values.proofs.Frame.{kept-agree, holds-kept, all-kept}
-use Rattle.loading.proofs.Words.{ranged, ranged-old, run-ranged, grown-trans, grown-reserved, grown-refl, apart, under-grown}
+use Rattle.loading.proofs.Words.{run-ranged, grown-trans, grown-reserved, grown-refl, apart, under-grown}
+use Rattle.values.proofs.Ranged.{ranged, ranged-old}
 
 pub join-none : (ds : Datas) → join ds none ≡ ds
 unfolding join

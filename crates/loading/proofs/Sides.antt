@@ -22,7 +22,8 @@ use Rattle.loading.specs.Loads.{Ready, Loaded-as, Comes, Loads, Loads-part, Li
 use Rattle.std.specs.declared.option.Option.{Option}
 use Rattle.std.specs.declared.option.Option.the-variants.{Some, None}
 use Rattle.loading.proofs.Spots.{At, at-stands, stands-at, at-same}
-use Rattle.loading.proofs.Words.{ranged, ranged-old, run-ranged, grown-above, under-grown}
+use Rattle.loading.proofs.Words.{run-ranged, grown-above, under-grown}
+use Rattle.values.proofs.Ranged.{ranged, ranged-old}
 use Rattle.loading.proofs.Typed.{Side-of, Left-of, left-of, Right-of, right-of}
 
 -- what a type's length is told to be

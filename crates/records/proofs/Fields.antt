@@ -13,7 +13,7 @@ use Rattle.values.specs.declared.value.Place.{Place}
 use Rattle.values.specs.declared.value.Value.the-variants.{Record}
 use Rattle.records.specs.Parts.{how-many-fields, rest-fields, then-fields}
 use Rattle.records.specs.Records.{Fields-below, Next}
-use Rattle.records.proofs.Ranged.{ranged, ranged-old, grown-ranged, run-ranged}
+use Rattle.values.proofs.Ranged.{ranged, ranged-old, grown-ranged, run-ranged}
 
 -- the fields of a record that lies there can be read
 pub record-below : {bs m : List ℕ} {p : Place} {fs : Fields} {u : Used} {top : ℕ} → Record-lies bs m p fs u top → Fields-below p top

@@ -1,4 +1,3 @@
-pub mod Ranged
 pub mod Orders
 pub mod Merging
 pub mod Fields

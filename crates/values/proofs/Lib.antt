@@ -1,3 +1,4 @@
 pub mod Slot
 pub mod Frame
 pub mod Copy
+pub mod Ranged

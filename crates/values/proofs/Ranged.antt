@@ -1,10 +1,10 @@
--- What is newly in use where something was made.
+-- Which words are in use where something was made: those that were, and a range.
 use mathlib.Core.Logic.{_⊎_, inl, inr}
 use mathlib.Core.Bool.{Bool, true, false, cond}
 use Prim.Native.Nat.{ℕ, _+_, _≤_, _<_}
 use native.Mathlib.Omega.{arith}
 use lib.Dec.{T, leb, ltb, leb→le, ltb→lt, le→leb, lt→ltb}
 use Rattle.values.specs.Memory.{Used, Grown, Run}
 
 or-first : (x y : Bool) → T x → T (cond x true y)
 or-first true y t = tt
@@ -38,7 +38,7 @@ pub ranged-new : (u : Used) (a b k : ℕ) → a ≤ k → k < b → T (ranged u 
 unfolding ranged
 ranged-new u a b k p q = or-second (u k) _ (and-both (leb a k) (ltb k b) (le→leb a k p) (lt→ltb k b q))
 
-ranged-split : (u : Used) (a b k : ℕ) → T (ranged u a b k) → T (u k) ⊎ ((a ≤ k) × (k < b))
+pub ranged-split : (u : Used) (a b k : ℕ) → T (ranged u a b k) → T (u k) ⊎ ((a ≤ k) × (k < b))
 unfolding ranged
 ranged-split u a b k t = go (or-split (u k) _ t)
   where
