@@ -2,3 +2,4 @@ pub mod Grows
 pub mod Pays
 pub mod Steps
 pub mod OfKind
+pub mod Dues

@@ -1,2 +1,4 @@
 pub mod Means
 pub mod Kinds
+pub mod Applied
+pub mod Ready
