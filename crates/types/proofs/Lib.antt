@@ -1,0 +1,13 @@
+pub mod Runs
+pub mod Built
+pub mod Gets
+pub mod Tops
+pub mod Told
+pub mod Makes
+pub mod Both
+pub mod Keeps
+pub mod Meanings
+pub mod Operators
+pub mod Records
+pub mod Products
+pub mod Makings

@@ -1,0 +1,9 @@
+pub mod HeadNotes
+pub mod RankReads
+pub mod TypeMade
+pub mod Loading
+pub mod Written
+pub mod UnaryTold
+pub mod DatumTold
+pub mod Seeing
+pub mod Bounds
