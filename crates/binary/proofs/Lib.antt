@@ -1,0 +1,10 @@
+pub mod Simple
+pub mod TwoBags
+pub mod Wide
+pub mod TwoRecords
+pub mod Items
+pub mod Choosing
+pub mod Filling
+pub mod Paired
+pub mod Products
+pub mod Joints
