@@ -1,0 +1,12 @@
+pub mod Parts
+pub mod Typing
+pub mod Frames
+pub mod Seen
+pub mod Leaves
+pub mod Singles
+pub mod Pairs
+pub mod Overs
+pub mod Defaults
+pub mod Eithers
+pub mod Each
+pub mod Keep
