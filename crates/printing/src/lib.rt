@@ -3,4 +3,4 @@ pub mod datum;
 pub mod line;
 pub mod number;
 pub mod text;
-pub mod words;
+mod words;
