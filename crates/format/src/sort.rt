@@ -41,7 +41,7 @@ pub struct Run {
 
 // How many bytes the `count` things in front have, or where no such things can come of the bytes any more.
 pub fn scan<S: Sort>(bytes: &[u8], count: usize) -> Result<usize, usize>
-    ensures { MatchResult result (λ e. Read (many coding count) bytes.now e) (λ p. Stuck (many coding count) bytes.now p) }
+    ensures { MatchResult result (λ e. Read (many S.coding count) bytes.now e) (λ p. Stuck (many S.coding count) bytes.now p) }
 {
     let mut end: usize = 0;
     let mut pending: u128 = count as u128;
@@ -59,7 +59,7 @@ pub fn scan<S: Sort>(bytes: &[u8], count: usize) -> Result<usize, usize>
 
 // A count and as many things.
 pub fn scan_counted<S: Sort>(bytes: &[u8]) -> Result<Run, usize>
-    ensures { MatchResult result (λ g. ReadAs (counted coding) bytes.now g.length (λ xs. length xs ≡ g.count)) (λ p. Stuck (counted coding) bytes.now p) }
+    ensures { MatchResult result (λ g. ReadAs (counted S.coding) bytes.now g.length (λ xs. length xs ≡ g.count)) (λ p. Stuck (counted S.coding) bytes.now p) }
 {
     match read_u32(bytes) {
         Ok(count) => match scan::<S>(&bytes[4..], count) {
@@ -75,8 +75,8 @@ pub fn scan_counted<S: Sort>(bytes: &[u8]) -> Result<Run, usize>
 
 // The head of the one thing that all of the bytes are, or the place at which they cease to be one.
 pub fn whole<S: Sort>(bytes: &[u8]) -> Result<S::Head, usize>
-    ensures is { MatchResult result (λ h. Whole coding bytes.now) (λ p. Garbled coding bytes.now p) }
-    ensures says { IfOk result (λ h. (e : ℕ) × told h bytes.now e) }
+    ensures is { MatchResult result (λ h. Whole S.coding bytes.now) (λ p. Garbled S.coding bytes.now p) }
+    ensures says { IfOk result (λ h. (e : ℕ) × S.told h bytes.now e) }
 {
     match S::head(bytes) {
         Ok(o) => match scan::<S>(&bytes[o.length..], o.parts) {

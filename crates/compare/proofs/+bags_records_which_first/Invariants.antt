@@ -9,8 +9,8 @@ decreases-bags l = 2 * l.depth + 1
 abbrev pub decreases-records : goal.decreases-records
 decreases-records l = 2 * l.depth + 1
 
-abbrev pub decreases-which-first : goal.decreases-which-first
-decreases-which-first l = 2 * l.depth
+abbrev pub decreases-which_first : goal.decreases-which_first
+decreases-which_first l = 2 * l.depth
 
 abbrev pub invariant-bags-loop-i : goal.invariant-bags-loop-i
 invariant-bags-loop-i l = BagsFrom l.bytes (l.base ++ l.mem) l.p l.q l.depth l.i

@@ -3,8 +3,8 @@ use Rattle.compare.specs.declared.Order.TheVariants.{Alike}
 use Rattle.compare.proofs.Whole.{texts_one, texts_past_a, texts_past_b, texts_read}
 use Rattle.compare.proofs.name_way.Goals as goal
 
-pub returns-then-one-place : goal.returns-then-one-place
-returns-then-one-place c = texts_one c.args.bytes.now c.args.a c.args.b (c.one-place.ensures.one c.if-one-place.true)
+pub returns-then-one_place : goal.returns-then-one_place
+returns-then-one_place c = texts_one c.args.bytes.now c.args.a c.args.b (c.one_place.ensures.one c.if-one_place.true)
 
 pub returns-then-not-spelled : goal.returns-then-not-spelled
 returns-then-not-spelled c =

@@ -6,4 +6,4 @@ use Rattle.compare.proofs.same.Goals as goal
 pub returns : goal.returns
 returns c =
     subst (λ r. Matches c.args.bytes.now (c.args.base.now ++ c.args.mem.now) c.args.a c.args.b c.args.depth r) (sym c.alike.ensures)
-    (values_match c.args.bytes.now (c.args.base.now ++ c.args.mem.now) c.args.a c.args.b c.args.depth c.which-first.result c.which-first.ensures)
+    (values_match c.args.bytes.now (c.args.base.now ++ c.args.mem.now) c.args.a c.args.b c.args.depth c.which_first.result c.which_first.ensures)

@@ -6,4 +6,4 @@ use Rattle.compare.proofs.same_name.Goals as goal
 pub returns : goal.returns
 returns c =
     subst (λ r. MatchesTexts c.args.bytes.now c.args.a c.args.b r) (sym c.alike.ensures)
-    (texts_match c.args.bytes.now c.args.a c.args.b c.name-way.result c.name-way.ensures)
+    (texts_match c.args.bytes.now c.args.a c.args.b c.name_way.result c.name_way.ensures)

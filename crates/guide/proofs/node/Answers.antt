@@ -32,66 +32,66 @@ returns-in-2 c = visited c.args.query.now c.args.last 2 c.in-2.is Env 0 (λ q re
 
 pub returns-in-3 : goal.returns-in-3
 returns-in-3 c =
-    visited c.args.query.now c.args.last 3 c.in-3.is (Just c.after-tag.result) 1
-    (λ q rest l s. just_told c.args.query.now rest c.args.last c.after-tag.result q c.after-tag.ensures l s)
+    visited c.args.query.now c.args.last 3 c.in-3.is (Just c.after_tag.result) 1
+    (λ q rest l s. just_told c.args.query.now rest c.args.last c.after_tag.result q c.after_tag.ensures l s)
 
 pub returns-in-27 : goal.returns-in-27
 returns-in-27 c =
-    visited c.args.query.now c.args.last 27 c.in-27.is (OnLeft c.after-tag-in-27.result) c.args.last
-    (λ q rest l s. left_told c.args.query.now rest c.args.last c.after-tag-in-27.result q c.after-tag-in-27.ensures l s)
+    visited c.args.query.now c.args.last 27 c.in-27.is (OnLeft c.after_tag-in-27.result) c.args.last
+    (λ q rest l s. left_told c.args.query.now rest c.args.last c.after_tag-in-27.result q c.after_tag-in-27.ensures l s)
 
 pub returns-in-28 : goal.returns-in-28
 returns-in-28 c =
-    visited c.args.query.now c.args.last 28 c.in-28.is (OnRight c.after-tag-in-28.result) c.args.last
-    (λ q rest l s. right_told c.args.query.now rest c.args.last c.after-tag-in-28.result q c.after-tag-in-28.ensures l s)
+    visited c.args.query.now c.args.last 28 c.in-28.is (OnRight c.after_tag-in-28.result) c.args.last
+    (λ q rest l s. right_told c.args.query.now rest c.args.last c.after_tag-in-28.result q c.after_tag-in-28.ensures l s)
 
-pub returns-in-Ok-read-u32 : goal.returns-in-Ok-read-u32
-returns-in-Ok-read-u32 c =
-    visited c.args.query.now c.args.last 18 c.in-18.is (One (Dot c.in-Ok-read-u32.n)) c.args.last
+pub returns-in-Ok-read_u32 : goal.returns-in-Ok-read_u32
+returns-in-Ok-read_u32 c =
+    visited c.args.query.now c.args.last 18 c.in-18.is (One (Dot c.in-Ok-read_u32.n)) c.args.last
     (λ q rest l s.
-    let e = name_same (from 1 c.args.query.now) l.more l.load c.in-Ok-read-u32.n c.in-Ok-read-u32.ensures l.fits l.after in
-    counted_told q c.args.last (dot l.load) (Dot c.in-Ok-read-u32.n) l.is (l.load, refl, e) s)
+    let e = name_same (from 1 c.args.query.now) l.more l.load c.in-Ok-read_u32.n c.in-Ok-read_u32.ensures l.fits l.after in
+    counted_told q c.args.last (dot l.load) (Dot c.in-Ok-read_u32.n) l.is (l.load, refl, e) s)
 
-pub returns-in-Err-read-u32 : goal.returns-in-Err-read-u32
-returns-in-Err-read-u32 c =
+pub returns-in-Err-read_u32 : goal.returns-in-Err-read_u32
+returns-in-Err-read_u32 c =
     unvisited c.args.query.now c.args.last 18 c.in-18.is
-    (λ q rest l. name_there (from 1 c.args.query.now) l.more l.load c.in-Err-read-u32.field-0 c.in-Err-read-u32.ensures l.fits l.after)
+    (λ q rest l. name_there (from 1 c.args.query.now) l.more l.load c.in-Err-read_u32.field-0 c.in-Err-read_u32.ensures l.fits l.after)
 
-pub returns-in-Ok-read-u32-2 : goal.returns-in-Ok-read-u32-2
-returns-in-Ok-read-u32-2 c =
-    visited c.args.query.now c.args.last 19 c.in-19.is (One (AsField c.in-Ok-read-u32-2.n)) c.args.last
+pub returns-in-Ok-read_u32-2 : goal.returns-in-Ok-read_u32-2
+returns-in-Ok-read_u32-2 c =
+    visited c.args.query.now c.args.last 19 c.in-19.is (One (AsField c.in-Ok-read_u32-2.n)) c.args.last
     (λ q rest l s.
-    let e = name_same (from 1 c.args.query.now) l.more l.load c.in-Ok-read-u32-2.n c.in-Ok-read-u32-2.ensures l.fits l.after in
-    counted_told q c.args.last (as_field l.load) (AsField c.in-Ok-read-u32-2.n) l.is (l.load, refl, e) s)
+    let e = name_same (from 1 c.args.query.now) l.more l.load c.in-Ok-read_u32-2.n c.in-Ok-read_u32-2.ensures l.fits l.after in
+    counted_told q c.args.last (as_field l.load) (AsField c.in-Ok-read_u32-2.n) l.is (l.load, refl, e) s)
 
-pub returns-in-Err-read-u32-2 : goal.returns-in-Err-read-u32-2
-returns-in-Err-read-u32-2 c =
+pub returns-in-Err-read_u32-2 : goal.returns-in-Err-read_u32-2
+returns-in-Err-read_u32-2 c =
     unvisited c.args.query.now c.args.last 19 c.in-19.is
-    (λ q rest l. name_there (from 1 c.args.query.now) l.more l.load c.in-Err-read-u32-2.field-0 c.in-Err-read-u32-2.ensures l.fits l.after)
+    (λ q rest l. name_there (from 1 c.args.query.now) l.more l.load c.in-Err-read_u32-2.field-0 c.in-Err-read_u32-2.ensures l.fits l.after)
 
-pub returns-in-Ok-read-u32-3 : goal.returns-in-Ok-read-u32-3
-returns-in-Ok-read-u32-3 c =
-    visited c.args.query.now c.args.last 20 c.in-20.is (One (Without c.in-Ok-read-u32-3.n)) c.args.last
+pub returns-in-Ok-read_u32-3 : goal.returns-in-Ok-read_u32-3
+returns-in-Ok-read_u32-3 c =
+    visited c.args.query.now c.args.last 20 c.in-20.is (One (Without c.in-Ok-read_u32-3.n)) c.args.last
     (λ q rest l s.
-    let e = name_same (from 1 c.args.query.now) l.more l.load c.in-Ok-read-u32-3.n c.in-Ok-read-u32-3.ensures l.fits l.after in
-    counted_told q c.args.last (without l.load) (Without c.in-Ok-read-u32-3.n) l.is (l.load, refl, e) s)
+    let e = name_same (from 1 c.args.query.now) l.more l.load c.in-Ok-read_u32-3.n c.in-Ok-read_u32-3.ensures l.fits l.after in
+    counted_told q c.args.last (without l.load) (Without c.in-Ok-read_u32-3.n) l.is (l.load, refl, e) s)
 
-pub returns-in-Err-read-u32-3 : goal.returns-in-Err-read-u32-3
-returns-in-Err-read-u32-3 c =
+pub returns-in-Err-read_u32-3 : goal.returns-in-Err-read_u32-3
+returns-in-Err-read_u32-3 c =
     unvisited c.args.query.now c.args.last 20 c.in-20.is
-    (λ q rest l. name_there (from 1 c.args.query.now) l.more l.load c.in-Err-read-u32-3.field-0 c.in-Err-read-u32-3.ensures l.fits l.after)
+    (λ q rest l. name_there (from 1 c.args.query.now) l.more l.load c.in-Err-read_u32-3.field-0 c.in-Err-read_u32-3.ensures l.fits l.after)
 
-pub returns-in-Ok-read-u32-4 : goal.returns-in-Ok-read-u32-4
-returns-in-Ok-read-u32-4 c =
-    visited c.args.query.now c.args.last 21 c.in-21.is (One (Only c.in-Ok-read-u32-4.n)) c.args.last
+pub returns-in-Ok-read_u32-4 : goal.returns-in-Ok-read_u32-4
+returns-in-Ok-read_u32-4 c =
+    visited c.args.query.now c.args.last 21 c.in-21.is (One (Only c.in-Ok-read_u32-4.n)) c.args.last
     (λ q rest l s.
-    let e = names_same (from 1 c.args.query.now) l.more l.load c.in-Ok-read-u32-4.n c.in-Ok-read-u32-4.ensures l.fits l.after in
-    counted_told q c.args.last (project l.load) (Only c.in-Ok-read-u32-4.n) l.is (l.load, refl, e) s)
+    let e = names_same (from 1 c.args.query.now) l.more l.load c.in-Ok-read_u32-4.n c.in-Ok-read_u32-4.ensures l.fits l.after in
+    counted_told q c.args.last (project l.load) (Only c.in-Ok-read_u32-4.n) l.is (l.load, refl, e) s)
 
-pub returns-in-Err-read-u32-4 : goal.returns-in-Err-read-u32-4
-returns-in-Err-read-u32-4 c =
+pub returns-in-Err-read_u32-4 : goal.returns-in-Err-read_u32-4
+returns-in-Err-read_u32-4 c =
     unvisited c.args.query.now c.args.last 21 c.in-21.is
-    (λ q rest l. names_there (from 1 c.args.query.now) l.more l.load c.in-Err-read-u32-4.field-0 c.in-Err-read-u32-4.ensures l.fits l.after)
+    (λ q rest l. names_there (from 1 c.args.query.now) l.more l.load c.in-Err-read_u32-4.field-0 c.in-Err-read_u32-4.ensures l.fits l.after)
 
 pub returns-in-Some : goal.returns-in-Some
 returns-in-Some c =

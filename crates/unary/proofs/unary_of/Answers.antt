@@ -3,23 +3,23 @@ use Rattle.operators.specs.declared.op.Single.TheVariants.{Op}
 use Rattle.unary.proofs.Placed.{ready_lies, not_comes, in_bag_comes, flat_comes, count_comes, sum_comes, distinct_comes, dot_comes, as_field_comes, without_comes, only_comes, dot_in, as_field_in, without_in, only_in}
 use Rattle.unary.proofs.unary_of.Goals as goal
 
-pub in-a-bag-requires : goal.in-a-bag-requires
-in-a-bag-requires c = record { space = c.requires.space; within = omega (arith, c.requires.ready.room, length-append c.args.base.now c.args.mem.now) }
+pub in_a_bag-requires : goal.in_a_bag-requires
+in_a_bag-requires c = record { space = c.requires.space; within = omega (arith, c.requires.ready.room, length-append c.args.base.now c.args.mem.now) }
 
-pub overflow-add-name : goal.overflow-add-name
-overflow-add-name c = omega (arith, dot_in c.args.bytes.now c.args.spot c.args.deep c.args.op c.args.v (c.args.base.now ++ c.args.mem.now) c.args.top c.requires.ready c.in-Dot.count c.in-Dot.is)
+pub overflow_add-name : goal.overflow_add-name
+overflow_add-name c = omega (arith, dot_in c.args.bytes.now c.args.spot c.args.deep c.args.op c.args.v (c.args.base.now ++ c.args.mem.now) c.args.top c.requires.ready c.in-Dot.count c.in-Dot.is)
 
-pub overflow-add-name-in-AsField : goal.overflow-add-name-in-AsField
-overflow-add-name-in-AsField c = omega (arith, as_field_in c.args.bytes.now c.args.spot c.args.deep c.args.op c.args.v (c.args.base.now ++ c.args.mem.now) c.args.top c.requires.ready c.in-AsField.count c.in-AsField.is)
+pub overflow_add-name-in-AsField : goal.overflow_add-name-in-AsField
+overflow_add-name-in-AsField c = omega (arith, as_field_in c.args.bytes.now c.args.spot c.args.deep c.args.op c.args.v (c.args.base.now ++ c.args.mem.now) c.args.top c.requires.ready c.in-AsField.count c.in-AsField.is)
 
 pub fielded-requires : goal.fielded-requires
 fielded-requires c = record { space = c.requires.space; within = omega (arith, c.requires.ready.room, length-append c.args.base.now c.args.mem.now) }
 
-pub overflow-add-name-in-Without : goal.overflow-add-name-in-Without
-overflow-add-name-in-Without c = omega (arith, without_in c.args.bytes.now c.args.spot c.args.deep c.args.op c.args.v (c.args.base.now ++ c.args.mem.now) c.args.top c.requires.ready c.in-Without.count c.in-Without.is)
+pub overflow_add-name-in-Without : goal.overflow_add-name-in-Without
+overflow_add-name-in-Without c = omega (arith, without_in c.args.bytes.now c.args.spot c.args.deep c.args.op c.args.v (c.args.base.now ++ c.args.mem.now) c.args.top c.requires.ready c.in-Without.count c.in-Without.is)
 
-pub overflow-add-spot : goal.overflow-add-spot
-overflow-add-spot c = omega (arith, only_in c.args.bytes.now c.args.spot c.args.deep c.args.op c.args.v (c.args.base.now ++ c.args.mem.now) c.args.top c.requires.ready c.in-Only.many c.in-Only.is)
+pub overflow_add-spot : goal.overflow_add-spot
+overflow_add-spot c = omega (arith, only_in c.args.bytes.now c.args.spot c.args.deep c.args.op c.args.v (c.args.base.now ++ c.args.mem.now) c.args.top c.requires.ready c.in-Only.many c.in-Only.is)
 
 pub projected-requires : goal.projected-requires
 projected-requires c =
@@ -29,7 +29,7 @@ pub returns-in-Not : goal.returns-in-Not
 returns-in-Not c = not_comes c.args.bytes.now c.args.spot c.args.deep c.args.v (c.args.base.now ++ c.args.mem.now) c.args.top c.args.left _ _ c.args.op c.in-Not.is (c.negated.ensures (c.args.base.now ++ c.args.mem.now))
 
 pub returns-in-InBag : goal.returns-in-InBag
-returns-in-InBag c = in_bag_comes c.args.bytes.now c.args.spot c.args.deep c.args.v (c.args.base.now ++ c.args.mem.now) c.args.top c.args.left _ _ c.args.op c.in-InBag.is c.in-a-bag.ensures
+returns-in-InBag c = in_bag_comes c.args.bytes.now c.args.spot c.args.deep c.args.v (c.args.base.now ++ c.args.mem.now) c.args.top c.args.left _ _ c.args.op c.in-InBag.is c.in_a_bag.ensures
 
 pub returns-in-Flat : goal.returns-in-Flat
 returns-in-Flat c = flat_comes c.args.bytes.now c.args.spot c.args.deep c.args.v (c.args.base.now ++ c.args.mem.now) c.args.top c.args.left _ _ c.args.op c.in-Flat.is c.flattened.ensures
@@ -50,7 +50,7 @@ pub returns-in-AsField : goal.returns-in-AsField
 returns-in-AsField c = as_field_comes c.args.bytes.now c.args.spot c.args.deep c.args.v (c.args.base.now ++ c.args.mem.now) c.args.top c.args.left _ _ c.args.op c.in-AsField.count c.in-AsField.is (c.fielded.ensures c.args.bytes.now)
 
 pub returns-in-Without : goal.returns-in-Without
-returns-in-Without c = without_comes c.args.bytes.now c.args.spot c.args.deep c.args.v (c.args.base.now ++ c.args.mem.now) c.args.top c.args.left _ _ c.args.op c.in-Without.count c.in-Without.is c.left-out.ensures
+returns-in-Without c = without_comes c.args.bytes.now c.args.spot c.args.deep c.args.v (c.args.base.now ++ c.args.mem.now) c.args.top c.args.left _ _ c.args.op c.in-Without.count c.in-Without.is c.left_out.ensures
 
 pub returns-in-Only : goal.returns-in-Only
 returns-in-Only c = only_comes c.args.bytes.now c.args.spot c.args.deep c.args.v (c.args.base.now ++ c.args.mem.now) c.args.top c.args.left _ _ c.args.op c.in-Only.many c.in-Only.is c.projected.ensures

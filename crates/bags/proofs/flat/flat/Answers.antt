@@ -3,15 +3,15 @@ use Rattle.bags.proofs.Things.{bag_readable, readable_more}
 use Rattle.bags.proofs.Flattening.{flat_no_bag, flat_no_room, flat_room, flat_made}
 use Rattle.bags.proofs.flat.flat.Goals as goal
 
-pub count-all-requires : goal.count-all-requires
-count-all-requires c =
+pub count_all-requires : goal.count_all-requires
+count_all-requires c =
     record { fits = c.requires.space.fits; readable = readable_more (bag_readable c.requires.lies.lies) (omega (arith, c.requires.lies.lies.room, length-append c.args.base.now c.args.mem.now)) }
 
-pub returns-in-default : goal.returns-in-default
-returns-in-default c = flat_no_bag c.args.place _ c.args.top c.in-default.ensures
+pub returns-in_default : goal.returns-in_default
+returns-in_default c = flat_no_bag c.args.place _ c.args.top c.in_default.ensures
 
-pub overflow-sub-room : goal.overflow-sub-room
-overflow-sub-room c = omega (arith, c.requires.lies.lies.room, length-append c.args.base.now c.args.mem.now)
+pub overflow_sub-room : goal.overflow_sub-room
+overflow_sub-room c = omega (arith, c.requires.lies.lies.room, length-append c.args.base.now c.args.mem.now)
 
 pub returns-then-room-count : goal.returns-then-room-count
 returns-then-room-count c =

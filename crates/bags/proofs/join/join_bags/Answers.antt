@@ -3,8 +3,8 @@ use Rattle.bags.proofs.Things.{few, readable_more}
 use Rattle.bags.proofs.Joining.{join_no_room, both_joined}
 use Rattle.bags.proofs.join.join_bags.Goals as goal
 
-pub overflow-add-count : goal.overflow-add-count
-overflow-add-count c = omega (arith, few c.args.x c.args.top c.requires.first, few c.args.y c.args.top c.requires.second)
+pub overflow_add-count : goal.overflow_add-count
+overflow_add-count c = omega (arith, few c.args.x c.args.top c.requires.first, few c.args.y c.args.top c.requires.second)
 
 pub returns-then-size-top : goal.returns-then-size-top
 returns-then-size-top c = join_no_room c.args.x c.args.y _ c.args.top (omega (arith, length-append c.args.base.now c.args.mem.now))

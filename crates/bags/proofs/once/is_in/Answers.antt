@@ -5,11 +5,11 @@ use Rattle.bags.proofs.once.is_in.Goals as goal
 pub loop-i-init : goal.loop-i-init
 loop-i-init c = none_yet c.args.bytes.now _ c.args.value c.args.place c.args.depth
 
-pub overflow-mul-i : goal.overflow-mul-i
-overflow-mul-i c = omega (arith, c.requires.fits, c.requires.readable.spots c.loop-i.i c.loop-i-test.true)
+pub overflow_mul-i : goal.overflow_mul-i
+overflow_mul-i c = omega (arith, c.requires.fits, c.requires.readable.spots c.loop-i.i c.loop-i-test.true)
 
-pub overflow-add-place : goal.overflow-add-place
-overflow-add-place c = omega (arith, c.requires.fits, c.requires.readable.spots c.loop-i.i c.loop-i-test.true)
+pub overflow_add-place : goal.overflow_add-place
+overflow_add-place c = omega (arith, c.requires.fits, c.requires.readable.spots c.loop-i.i c.loop-i-test.true)
 
 pub load-other-requires : goal.load-other-requires
 load-other-requires c = record { fits = c.requires.fits; within = c.requires.readable.spots c.loop-i.i c.loop-i-test.true }

@@ -4,7 +4,7 @@ pub returns-in-And : goal.returns-in-And
 returns-in-And c = rw c.in-And.is (c.both_true.ensures.does c.args.bytes.now c.args.deep _)
 
 pub returns-in-Or : goal.returns-in-Or
-returns-in-Or c = rw c.in-Or.is (c.one-true.ensures.does c.args.bytes.now c.args.deep _)
+returns-in-Or c = rw c.in-Or.is (c.one_true.ensures.does c.args.bytes.now c.args.deep _)
 
 pub returns-in-Plus : goal.returns-in-Plus
 returns-in-Plus c = rw c.in-Plus.is (c.plus.ensures.does c.args.bytes.now c.args.deep _)
@@ -12,8 +12,8 @@ returns-in-Plus c = rw c.in-Plus.is (c.plus.ensures.does c.args.bytes.now c.args
 pub returns-in-Less : goal.returns-in-Less
 returns-in-Less c = rw c.in-Less.is (c.less.ensures.does c.args.bytes.now c.args.deep _)
 
-pub join-two-requires : goal.join-two-requires
-join-two-requires c = record { space = c.requires.space; ready = record { bytes = c.args.bytes.now; deep = c.args.deep; given = rw c.in-JoinBags.is at c.requires.ready } }
+pub join_two-requires : goal.join_two-requires
+join_two-requires c = record { space = c.requires.space; ready = record { bytes = c.args.bytes.now; deep = c.args.deep; given = rw c.in-JoinBags.is at c.requires.ready } }
 
 pub returns-in-JoinBags : goal.returns-in-JoinBags
-returns-in-JoinBags c = rw c.in-JoinBags.is (c.join-two.ensures.does c.args.bytes.now c.args.deep)
+returns-in-JoinBags c = rw c.in-JoinBags.is (c.join_two.ensures.does c.args.bytes.now c.args.deep)

@@ -3,15 +3,15 @@ use Rattle.std.proofs.lemmas.Result.{err_from_is_err_and}
 use Rattle.binary.proofs.Simple.{or_first, or_second, or_comes}
 use Rattle.binary.proofs.plain.one_true.Goals as goal
 
-pub returns-in-err-x : goal.returns-in-err-x
-returns-in-err-x c =
-    let p = err_from_is_err_and c.from-residual.result c.from-residual.ensures.1 in
-    rw (p.1, p.2) (or_first c.args.a c.args.b c.args.top c.args.left _ (sym c.in-err-x.ensures))
+pub returns-in_err-x : goal.returns-in_err-x
+returns-in_err-x c =
+    let p = err_from_is_err_and c.from_residual.result c.from_residual.ensures.1 in
+    rw (p.1, p.2) (or_first c.args.a c.args.b c.args.top c.args.left _ (sym c.in_err-x.ensures))
 
-pub returns-in-err-y : goal.returns-in-err-y
-returns-in-err-y c =
-    let p = err_from_is_err_and c.from-residual-in-err-y.result c.from-residual-in-err-y.ensures.1 in
-    rw (p.1, p.2) (or_second c.args.a c.args.b c.args.top c.args.left _ _ (sym c.in-ok-x.ensures) (sym c.in-err-y.ensures))
+pub returns-in_err-y : goal.returns-in_err-y
+returns-in_err-y c =
+    let p = err_from_is_err_and c.from_residual-in_err-y.result c.from_residual-in_err-y.ensures.1 in
+    rw (p.1, p.2) (or_second c.args.a c.args.b c.args.top c.args.left _ _ (sym c.in_ok-x.ensures) (sym c.in_err-y.ensures))
 
 pub returns : goal.returns
-returns c = or_comes c.args.a c.args.b c.args.top c.args.left _ _ _ (sym c.in-ok-x.ensures) (sym c.in-ok-y.ensures) c.or.ensures
+returns c = or_comes c.args.a c.args.b c.args.top c.args.left _ _ _ (sym c.in_ok-x.ensures) (sym c.in_ok-y.ensures) c.or.ensures

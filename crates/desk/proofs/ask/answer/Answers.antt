@@ -9,8 +9,8 @@ use Rattle.desk.proofs.ask.answer.Goals as goal
 pub returns-in-Err : goal.returns-in-Err
 returns-in-Err c = refused_answer c.args.bytes.now (length c.args.lent.now) c.in-Err.refusal.number c.in-Err.refusal.place (c.in-Err.ensures.told (length c.args.lent.now))
 
-pub ask-of-requires : goal.ask-of-requires
-ask-of-requires c =
+pub ask_of-requires : goal.ask_of-requires
+ask_of-requires c =
     let e = c.deref.ensures.value ∙ take_at c.checked-passed.new.guide _ c.args.desk.now.guide.len (c.checked-passed.auto.guide ∙ c.deref-mut.ensures.len) in
     let l = subst (λ (g : List ℕ). LetThrough c.args.bytes.now g c.in-Ok.ask) (sym e) c.in-Ok.ensures.told in
     record { passed = l.passed; marks = search rules }
@@ -19,5 +19,5 @@ pub returns : goal.returns
 returns c =
     let e = c.deref.ensures.value ∙ take_at c.checked-passed.new.guide _ c.args.desk.now.guide.len (c.checked-passed.auto.guide ∙ c.deref-mut.ensures.len) in
     let l = subst (λ (g : List ℕ). LetThrough c.args.bytes.now g c.in-Ok.ask) (sym e) c.in-Ok.ensures.told in
-    subst (λ (r : Answer). Answered thin c.args.bytes.now (length c.args.lent.now) r) (sym c.answer-of.ensures)
-    (outcome_answer c.args.bytes.now c.deref.result.now c.in-Ok.ask l (length c.args.lent.now) c.ask-of.result (c.ask-of.ensures.means l.passed))
+    subst (λ (r : Answer). Answered thin c.args.bytes.now (length c.args.lent.now) r) (sym c.answer_of.ensures)
+    (outcome_answer c.args.bytes.now c.deref.result.now c.in-Ok.ask l (length c.args.lent.now) c.ask_of.result (c.ask_of.ensures.means l.passed))

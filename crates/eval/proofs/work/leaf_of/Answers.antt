@@ -3,11 +3,11 @@ use Rattle.eval.proofs.Seen.{in_marks}
 use Rattle.eval.proofs.Leaves.{table_spot_at, table_holds, it_holds, env_holds, just_spot_at, just_holds}
 use Rattle.eval.proofs.work.leaf_of.Goals as goal
 
-pub overflow-mul-n : goal.overflow-mul-n
-overflow-mul-n c = let g = table_spot_at c.in-Table.n c.in-Table.is c.requires.ready in omega (arith, g, c.ranges.top)
+pub overflow_mul-n : goal.overflow_mul-n
+overflow_mul-n c = let g = table_spot_at c.in-Table.n c.in-Table.is c.requires.ready in omega (arith, g, c.ranges.top)
 
-pub overflow-add-scene : goal.overflow-add-scene
-overflow-add-scene c = let g = table_spot_at c.in-Table.n c.in-Table.is c.requires.ready in omega (arith, g, c.ranges.top)
+pub overflow_add-scene : goal.overflow_add-scene
+overflow_add-scene c = let g = table_spot_at c.in-Table.n c.in-Table.is c.requires.ready in omega (arith, g, c.ranges.top)
 
 pub load-requires : goal.load-requires
 load-requires c =
@@ -17,8 +17,8 @@ load-requires c =
 pub bounds-lent-at : goal.bounds-lent-at
 bounds-lent-at c = in_marks c.requires.ready.ready.stands
 
-pub overflow-add-scene-in-Just : goal.overflow-add-scene-in-Just
-overflow-add-scene-in-Just c = let g = just_spot_at c.in-Just.is c.requires.ready in omega (arith, g, c.ranges.top)
+pub overflow_add-scene-in-Just : goal.overflow_add-scene-in-Just
+overflow_add-scene-in-Just c = let g = just_spot_at c.in-Just.is c.requires.ready in omega (arith, g, c.ranges.top)
 
 pub load-requires-in-Just : goal.load-requires-in-Just
 load-requires-in-Just c =

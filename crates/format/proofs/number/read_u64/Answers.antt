@@ -5,7 +5,7 @@ use Rattle.format.specs.Codings.{number_stuck}
 use Rattle.format.proofs.number.read_u64.Goals as goal
 
 pub returns-then-bytes-lt8 : goal.returns-then-bytes-lt8
-returns-then-bytes-lt8 c = number_stuck 8 c.args.bytes.now (bytes_typed c.args.bytes.now c.type-inv.bytes) (omega arith)
+returns-then-bytes-lt8 c = number_stuck 8 c.args.bytes.now (bytes_typed c.args.bytes.now c.type_inv.bytes) (omega arith)
 
 pub returns : goal.returns
 returns c =

@@ -5,8 +5,8 @@ use Rattle.query.specs.Query.{equal, and, or, plus, less, join_bags, join_recs, 
 use Rattle.format.specs.Heads.{it_q, env_q, two_q, one_q, each_q, keep_q, product_q, default_q, either_q, then_q, with_env_q, write_query_head, FitsQueryHead, query_arity}
 use Rattle.format.proofs.queries.operator_node.Goals as goal
 
-pub returns-in-default : goal.returns-in-default
-returns-in-default c = (refl, ⊎_elim (λ h. inl h) (λ h. inr (omega arith)) (cases_lt c.args.tag 4))
+pub returns-in_default : goal.returns-in_default
+returns-in_default c = (refl, ⊎_elim (λ h. inl h) (λ h. inr (omega arith)) (cases_lt c.args.tag 4))
 
 pub returns-in-4 : goal.returns-in-4
 unfolding write_query_head FitsQueryHead query_arity tag_2 write_1 Fits1

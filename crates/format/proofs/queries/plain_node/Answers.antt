@@ -5,10 +5,10 @@ use Rattle.query.specs.Query.{equal, and, or, plus, less, join_bags, join_recs, 
 use Rattle.format.specs.Heads.{it_q, env_q, two_q, one_q, each_q, keep_q, product_q, default_q, either_q, then_q, with_env_q, write_query_head, FitsQueryHead, query_arity}
 use Rattle.format.proofs.queries.plain_node.Goals as goal
 
-pub returns-in-default : goal.returns-in-default
-returns-in-default c =
-    MatchResult-weaker c.operator-node.result c.operator-node.ensures (λ o h. h)
-    (λ p h. (h.0, λ a b d e f g i j k. ⊎_elim (λ l. omega (arith, c.in-default)) (λ l. omega (arith, c.in-default)) h.1))
+pub returns-in_default : goal.returns-in_default
+returns-in_default c =
+    MatchResult-weaker c.operator_node.result c.operator_node.ensures (λ o h. h)
+    (λ p h. (h.0, λ a b d e f g i j k. ⊎_elim (λ l. omega (arith, c.in_default)) (λ l. omega (arith, c.in_default)) h.1))
 
 pub returns-in-1 : goal.returns-in-1
 unfolding write_query_head FitsQueryHead query_arity tag_2 write_1 Fits1

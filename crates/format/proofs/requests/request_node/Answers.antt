@@ -5,10 +5,10 @@ use Rattle.format.proofs.Places.{asks_on, plans_on}
 use Rattle.format.proofs.requests.request_node.Goals as goal
 
 pub returns-then-bytes-eq0 : goal.returns-then-bytes-eq0
-returns-then-bytes-eq0 c = request_empty c.args.bytes.now (bytes_typed _ c.type-inv.bytes) c.if-bytes-eq0.true
+returns-then-bytes-eq0 c = request_empty c.args.bytes.now (bytes_typed _ c.type_inv.bytes) c.if-bytes-eq0.true
 
-pub returns-in-default : goal.returns-in-default
-returns-in-default c = request_no_tag c.args.bytes.now (bytes_typed _ c.type-inv.bytes) (omega arith) (omega arith)
+pub returns-in_default : goal.returns-in_default
+returns-in_default c = request_no_tag c.args.bytes.now (bytes_typed _ c.type_inv.bytes) (omega arith) (omega arith)
 
 pub returns-in-Ok : goal.returns-in-Ok
 returns-in-Ok c =
@@ -16,22 +16,22 @@ returns-in-Ok c =
     let l = r.thing in
     record {
       thing = _;
-      begins = request_begins c.args.bytes.now (bytes_typed _ c.type-inv.bytes) 0 c.in-Ok.length _ l (omega arith) c.in-0.is (omega arith) r.begins refl;
+      begins = request_begins c.args.bytes.now (bytes_typed _ c.type_inv.bytes) 0 c.in-Ok.length _ l (omega arith) c.in-0.is (omega arith) r.begins refl;
       says = (l.0, l.1.0, l.1.1.0, l.1.1.1, refl, asks_on c.args.bytes.now c.in-Ok.a _ l.0 l.1.0 l.1.1.0 l.1.1.1 (omega arith) refl refl refl refl refl r.says);
     }
 
 pub returns-in-Err : goal.returns-in-Err
-returns-in-Err c = request_stuck c.args.bytes.now (bytes_typed _ c.type-inv.bytes) 0 c.in-Err.p _ (omega arith) c.in-0.is (omega arith) c.in-Err.ensures refl
+returns-in-Err c = request_stuck c.args.bytes.now (bytes_typed _ c.type_inv.bytes) 0 c.in-Err.p _ (omega arith) c.in-0.is (omega arith) c.in-Err.ensures refl
 
-pub returns-in-Ok-plan-node : goal.returns-in-Ok-plan-node
-returns-in-Ok-plan-node c =
-    let r = c.in-Ok-plan-node.ensures in
+pub returns-in-Ok-plan_node : goal.returns-in-Ok-plan_node
+returns-in-Ok-plan_node c =
+    let r = c.in-Ok-plan_node.ensures in
     let l = r.thing in
     record {
       thing = _;
-      begins = request_begins c.args.bytes.now (bytes_typed _ c.type-inv.bytes) 1 c.in-Ok-plan-node.length _ l (omega arith) c.in-1.is (omega arith) r.begins refl;
-      says = (l.0, l.1, refl, plans_on c.args.bytes.now c.in-Ok-plan-node.b _ l.0 l.1 (omega arith) refl refl r.says);
+      begins = request_begins c.args.bytes.now (bytes_typed _ c.type_inv.bytes) 1 c.in-Ok-plan_node.length _ l (omega arith) c.in-1.is (omega arith) r.begins refl;
+      says = (l.0, l.1, refl, plans_on c.args.bytes.now c.in-Ok-plan_node.b _ l.0 l.1 (omega arith) refl refl r.says);
     }
 
-pub returns-in-Err-plan-node : goal.returns-in-Err-plan-node
-returns-in-Err-plan-node c = request_stuck c.args.bytes.now (bytes_typed _ c.type-inv.bytes) 1 c.in-Err-plan-node.p _ (omega arith) c.in-1.is (omega arith) c.in-Err-plan-node.ensures refl
+pub returns-in-Err-plan_node : goal.returns-in-Err-plan_node
+returns-in-Err-plan_node c = request_stuck c.args.bytes.now (bytes_typed _ c.type_inv.bytes) 1 c.in-Err-plan_node.p _ (omega arith) c.in-1.is (omega arith) c.in-Err-plan_node.ensures refl

@@ -12,10 +12,10 @@ returns-then-size-top c =
       means = brings.no_slots c.args.bytes.now c.args.query_at c.args.query.now c.args.guide.now c.args.marks.now c.number-count.new.marks c.args.top c.number-count.result c.number-count.ensures _ (omega arith);
     }
 
-pub returns-in-err-done : goal.returns-in-err-done
-returns-in-err-done c =
-    let e = c.in-err-done.ensures in
-    rw c.from-residual.ensures record {
+pub returns-in_err-done : goal.returns-in_err-done
+returns-in_err-done c =
+    let e = c.in_err-done.ensures in
+    rw c.from_residual.ensures record {
       kept = e.kept;
       inside = tt;
       means = brings.no_room c.args.bytes.now c.args.query_at c.args.query.now c.args.guide.now c.args.marks.now c.number-count.new.marks c.args.top c.number-count.result c.number-count.ensures _ _ e.means;
@@ -23,9 +23,9 @@ returns-in-err-done c =
 
 pub returns : goal.returns
 returns c =
-    let e = c.in-ok-done.ensures in
+    let e = c.in_ok-done.ensures in
     record {
       kept = e.kept;
       inside = (omega (arith, e.inside.0), e.inside.1);
-      means = brings.brought c.args.bytes.now c.args.query_at c.args.query.now c.args.guide.now c.args.marks.now c.number-count.new.marks c.args.top c.number-count.result c.number-count.ensures _ _ c.in-ok-done.done e.inside.0 e.inside.1 e.means;
+      means = brings.brought c.args.bytes.now c.args.query_at c.args.query.now c.args.guide.now c.args.marks.now c.number-count.new.marks c.args.top c.number-count.result c.number-count.ensures _ _ c.in_ok-done.done e.inside.0 e.inside.1 e.means;
     }

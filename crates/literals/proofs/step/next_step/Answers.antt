@@ -5,8 +5,8 @@ use Rattle.literals.proofs.step.next_step.Goals as goal
 pub returns-then-at-guide : goal.returns-then-at-guide
 returns-then-at-guide c = record { inside = tt; tells = below.past_guide c.args.query.now c.args.guide.now c.args.at _ (omega arith) }
 
-pub returns-in-default : goal.returns-in-default
-returns-in-default c = record { inside = tt; tells = below.not_visited c.args.query.now c.args.guide.now c.args.at _ c.in-default.ensures }
+pub returns-in_default : goal.returns-in_default
+returns-in_default c = record { inside = tt; tells = below.not_visited c.args.query.now c.args.guide.now c.args.at _ c.in_default.ensures }
 
 pub returns-then-first-eq0 : goal.returns-then-first-eq0
 returns-then-first-eq0 c = record { inside = tt; tells = below.no_places c.args.query.now c.args.guide.now c.args.at c.in-Some.visit c.in-Some.ensures (⊎_elim (λ a. inl a) (λ a. inr (⊎_elim (λ b. inl b.1) (λ b. inr b.2) a)) c.then-first-eq0.either) }

@@ -9,8 +9,8 @@ returns-in-Record c =
       tells = names_tell c.args.bytes.now c.args.ty _ _ _ c.in-Ok.ensures _ c.in-Record.is;
     }
 
-pub returns-in-default : goal.returns-in-default
-returns-in-default c = record { inside = tt; tells = other_type c.args.bytes.now c.args.ty _ _ _ c.in-Ok.ensures c.in-default.not-Record }
+pub returns-in_default : goal.returns-in_default
+returns-in_default c = record { inside = tt; tells = other_type c.args.bytes.now c.args.ty _ _ _ c.in-Ok.ensures c.in_default.not-Record }
 
 pub returns-in-Err : goal.returns-in-Err
 returns-in-Err c = record { inside = tt; tells = no_names c.args.bytes.now c.args.ty _ c.in-Err.ensures }

@@ -13,18 +13,18 @@ loop-i-init c =
     let l = length-append c.args.base.now c.args.mem.now in
     tabled.begin c.args.bytes.now c.args.at c.args.ty c.args.count c.args.top _ (omega (arith, c.requires.placed.datum)) (omega (arith, c.requires.placed.type)) (omega arith)
 
-pub load-data-requires : goal.load-data-requires
-load-data-requires c =
+pub load_data-requires : goal.load_data-requires
+load_data-requires c =
     let w = c.loop-i.invariant in
     let l = length-append c.args.base.now c.loop-i.mem in
     record { space = record { over = omega (arith, w.above); fits = omega arith }; room = omega (arith, w.within); placed = record { datum = omega (arith, w.before); type = omega (arith, w.before-type) } }
 
-pub returns-in-err-l : goal.returns-in-err-l
-returns-in-err-l c =
-    let e = c.in-err-l.ensures in
+pub returns-in_err-l : goal.returns-in_err-l
+returns-in_err-l c =
+    let e = c.in_err-l.ensures in
     let w = c.loop-i.invariant in
     let above : c.args.top ≤ c.loop-i.high = omega (arith, w.above) in
-    rw c.from-residual.ensures record {
+    rw c.from_residual.ensures record {
       kept = kept_trans w.kept e.kept above;
       inside = tt;
       means = tabled.item_none c.args.bytes.now c.args.at c.args.ty c.args.count c.args.top _ _ _ _ _ _ w c.loop-i-test.true _ e.means;
@@ -32,8 +32,8 @@ returns-in-err-l c =
 
 pub loop-i-preserved : goal.loop-i-preserved
 loop-i-preserved c =
-    let e = c.in-ok-l.ensures in
-    tabled.turned c.args.bytes.now c.args.at c.args.ty c.args.count c.args.top _ _ _ _ _ _ c.loop-i.invariant c.loop-i-test.true c.in-ok-l.l _ _ e.kept e.inside e.means c.store.ensures
+    let e = c.in_ok-l.ensures in
+    tabled.turned c.args.bytes.now c.args.at c.args.ty c.args.count c.args.top _ _ _ _ _ _ c.loop-i.invariant c.loop-i-test.true c.in_ok-l.l _ _ e.kept e.inside e.means c.store.ensures
 
 pub returns : goal.returns
 returns c =

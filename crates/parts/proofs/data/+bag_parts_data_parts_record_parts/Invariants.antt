@@ -4,14 +4,14 @@ use Rattle.format.specs.Wire.{data_of}
 use Rattle.parts.proofs.Rows.{Walked}
 use Rattle.parts.proofs.data.+bag_parts_data_parts_record_parts.Given as goal
 
-abbrev pub decreases-bag-parts : goal.decreases-bag-parts
-decreases-bag-parts l = 3 * l.limit + 1
+abbrev pub decreases-bag_parts : goal.decreases-bag_parts
+decreases-bag_parts l = 3 * l.limit + 1
 
-abbrev pub decreases-data-parts : goal.decreases-data-parts
-decreases-data-parts l = 3 * l.limit
+abbrev pub decreases-data_parts : goal.decreases-data_parts
+decreases-data_parts l = 3 * l.limit
 
-abbrev pub decreases-record-parts : goal.decreases-record-parts
-decreases-record-parts l = 3 * l.limit + 2
+abbrev pub decreases-record_parts : goal.decreases-record_parts
+decreases-record_parts l = 3 * l.limit + 2
 
-abbrev pub invariant-bag-parts-loop-i : goal.invariant-bag-parts-loop-i
-invariant-bag-parts-loop-i l = Walked data_of size_d l.limit l.count l.bytes l.-i l.parts l.end
+abbrev pub invariant-bag_parts-loop-i : goal.invariant-bag_parts-loop-i
+invariant-bag_parts-loop-i l = Walked data_of size_d l.limit l.count l.bytes l.-i l.parts l.end

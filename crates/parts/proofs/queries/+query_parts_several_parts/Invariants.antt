@@ -4,11 +4,11 @@ use Rattle.format.specs.Wire.{queries}
 use Rattle.parts.proofs.Rows.{Walked}
 use Rattle.parts.proofs.queries.+query_parts_several_parts.Given as goal
 
-abbrev pub decreases-several-parts : goal.decreases-several-parts
-decreases-several-parts l = 2 * l.limit + 1
+abbrev pub decreases-several_parts : goal.decreases-several_parts
+decreases-several_parts l = 2 * l.limit + 1
 
-abbrev pub decreases-query-parts : goal.decreases-query-parts
-decreases-query-parts l = 2 * l.limit
+abbrev pub decreases-query_parts : goal.decreases-query_parts
+decreases-query_parts l = 2 * l.limit
 
-abbrev pub invariant-several-parts-loop-i : goal.invariant-several-parts-loop-i
-invariant-several-parts-loop-i l = Walked queries size_q l.limit l.count l.bytes l.-i l.parts l.end
+abbrev pub invariant-several_parts-loop-i : goal.invariant-several_parts-loop-i
+invariant-several_parts-loop-i l = Walked queries size_q l.limit l.count l.bytes l.-i l.parts l.end

@@ -7,15 +7,15 @@ use Rattle.parts.proofs.TypeParts.{entry_size, total_schema}
 use Rattle.parts.proofs.Rows.{counted_as, walk_more, walk_over, walk_done}
 use Rattle.parts.proofs.types.schema_parts.Goals as goal
 
-pub returns-in-err-one : goal.returns-in-err-one
-returns-in-err-one c =
-    rw c.from-residual.ensures
+pub returns-in_err-one : goal.returns-in_err-one
+returns-in_err-one c =
+    rw c.from_residual.ensures
     (counted_as (many types c.args.count) (total entry_size) size_s c.args.limit c.args.bytes.now _ total_schema
-    (walk_over types entry_size c.args.limit c.args.count c.args.bytes.now c.loop-i.-i c.loop-i.parts c.loop-i.end c.loop-i.invariant (omega arith) c.in-err-one.ensures))
+    (walk_over types entry_size c.args.limit c.args.count c.args.bytes.now c.loop-i.-i c.loop-i.parts c.loop-i.end c.loop-i.invariant (omega arith) c.in_err-one.ensures))
 
 pub loop-i-preserved : goal.loop-i-preserved
 loop-i-preserved c =
-    walk_more types entry_size c.args.limit c.args.count c.args.bytes.now c.loop-i.-i c.loop-i.parts c.loop-i.end c.loop-i.invariant c.in-ok-one.one (omega arith) c.in-ok-one.ensures
+    walk_more types entry_size c.args.limit c.args.count c.args.bytes.now c.loop-i.-i c.loop-i.parts c.loop-i.end c.loop-i.invariant c.in_ok-one.one (omega arith) c.in_ok-one.ensures
 
 pub returns : goal.returns
 returns c =

@@ -8,20 +8,20 @@ loop-at-init c = (omega arith, showing_begin c.args.words.now (vec_items c.new-s
 
 pub loop-at-preserved : goal.loop-at-preserved
 loop-at-preserved c = (
-  omega (arith, c.loop-at.invariant.0, c.in-ok-next.ensures.grows, c.in-ok-show-between.ensures.grows),
-  showing_on c.args.words.now (vec_items c.loop-at.stack) (vec_items c.show-head.new.stack) c.loop-at.at (vec_items c.args.out.now) (vec_items c.loop-at.out) (vec_items c.show-head.new.out) c.loop-at.invariant.1 c.in-Some.next (subst (λ (o : Option ℕ). Headed c.args.words.now c.loop-at.at (vec_items c.loop-at.stack) (vec_items c.show-head.new.stack) (vec_items c.loop-at.out) (vec_items c.show-head.new.out) o) c.in-Some.is c.in-ok-next.ensures.is) (vec_items c.show-between.new.stack) (vec_items c.show-between.new.out) (subst (λ (b : Bool). Between c.args.words.now (vec_items c.show-head.new.stack) (vec_items c.show-between.new.stack) (vec_items c.show-head.new.out) (vec_items c.show-between.new.out) b) c.if-not-branch.false c.in-ok-show-between.ensures.is),
+  omega (arith, c.loop-at.invariant.0, c.in_ok-next.ensures.grows, c.in_ok-show_between.ensures.grows),
+  showing_on c.args.words.now (vec_items c.loop-at.stack) (vec_items c.show_head.new.stack) c.loop-at.at (vec_items c.args.out.now) (vec_items c.loop-at.out) (vec_items c.show_head.new.out) c.loop-at.invariant.1 c.in-Some.next (subst (λ (o : Option ℕ). Headed c.args.words.now c.loop-at.at (vec_items c.loop-at.stack) (vec_items c.show_head.new.stack) (vec_items c.loop-at.out) (vec_items c.show_head.new.out) o) c.in-Some.is c.in_ok-next.ensures.is) (vec_items c.show_between.new.stack) (vec_items c.show_between.new.out) (subst (λ (b : Bool). Between c.args.words.now (vec_items c.show_head.new.stack) (vec_items c.show_between.new.stack) (vec_items c.show_head.new.out) (vec_items c.show_between.new.out) b) c.if-not-branch.false c.in_ok-show_between.ensures.is),
 )
 
-pub returns-in-default : goal.returns-in-default
-returns-in-default c = record {
-  is = showing_stuck c.args.words.now (vec_items c.loop-at.stack) (vec_items c.show-head.new.stack) c.loop-at.at (vec_items c.args.out.now) (vec_items c.loop-at.out) (vec_items c.show-head.new.out) c.loop-at.invariant.1 (subst (λ (o : Option ℕ). Headed c.args.words.now c.loop-at.at (vec_items c.loop-at.stack) (vec_items c.show-head.new.stack) (vec_items c.loop-at.out) (vec_items c.show-head.new.out) o) c.in-default.is c.in-ok-next.ensures.is);
-  grows = omega (arith, c.loop-at.invariant.0, c.in-ok-next.ensures.grows);
+pub returns-in_default : goal.returns-in_default
+returns-in_default c = record {
+  is = showing_stuck c.args.words.now (vec_items c.loop-at.stack) (vec_items c.show_head.new.stack) c.loop-at.at (vec_items c.args.out.now) (vec_items c.loop-at.out) (vec_items c.show_head.new.out) c.loop-at.invariant.1 (subst (λ (o : Option ℕ). Headed c.args.words.now c.loop-at.at (vec_items c.loop-at.stack) (vec_items c.show_head.new.stack) (vec_items c.loop-at.out) (vec_items c.show_head.new.out) o) c.in_default.is c.in_ok-next.ensures.is);
+  grows = omega (arith, c.loop-at.invariant.0, c.in_ok-next.ensures.grows);
 }
 
 pub returns-then-not-branch : goal.returns-then-not-branch
 returns-then-not-branch c = record {
-  is = showing_end c.args.words.now (vec_items c.loop-at.stack) (vec_items c.show-head.new.stack) c.loop-at.at (vec_items c.args.out.now) (vec_items c.loop-at.out) (vec_items c.show-head.new.out) c.loop-at.invariant.1 c.in-Some.next (subst (λ (o : Option ℕ). Headed c.args.words.now c.loop-at.at (vec_items c.loop-at.stack) (vec_items c.show-head.new.stack) (vec_items c.loop-at.out) (vec_items c.show-head.new.out) o) c.in-Some.is c.in-ok-next.ensures.is) (vec_items c.show-between.new.stack) (vec_items c.show-between.new.out) (subst (λ (b : Bool). Between c.args.words.now (vec_items c.show-head.new.stack) (vec_items c.show-between.new.stack) (vec_items c.show-head.new.out) (vec_items c.show-between.new.out) b) c.if-not-branch.true c.in-ok-show-between.ensures.is);
-  grows = omega (arith, c.loop-at.invariant.0, c.in-ok-next.ensures.grows, c.in-ok-show-between.ensures.grows);
+  is = showing_end c.args.words.now (vec_items c.loop-at.stack) (vec_items c.show_head.new.stack) c.loop-at.at (vec_items c.args.out.now) (vec_items c.loop-at.out) (vec_items c.show_head.new.out) c.loop-at.invariant.1 c.in-Some.next (subst (λ (o : Option ℕ). Headed c.args.words.now c.loop-at.at (vec_items c.loop-at.stack) (vec_items c.show_head.new.stack) (vec_items c.loop-at.out) (vec_items c.show_head.new.out) o) c.in-Some.is c.in_ok-next.ensures.is) (vec_items c.show_between.new.stack) (vec_items c.show_between.new.out) (subst (λ (b : Bool). Between c.args.words.now (vec_items c.show_head.new.stack) (vec_items c.show_between.new.stack) (vec_items c.show_head.new.out) (vec_items c.show_between.new.out) b) c.if-not-branch.true c.in_ok-show_between.ensures.is);
+  grows = omega (arith, c.loop-at.invariant.0, c.in_ok-next.ensures.grows, c.in_ok-show_between.ensures.grows);
 }
 
 pub returns : goal.returns

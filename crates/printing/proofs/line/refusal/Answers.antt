@@ -8,12 +8,12 @@ returns c = record {
   is =
       seven
       (vec_items c.args.out.now)
-      (vec_items c.extend-from-slice.new.self)
-      (vec_items c.show-number.new.out)
+      (vec_items c.extend_from_slice.new.self)
+      (vec_items c.show_number.new.out)
       (vec_items c.push.new.self)
-      (vec_items c.show-number-2.new.out)
+      (vec_items c.show_number-2.new.out)
       (vec_items c.push-2.new.self)
-      (vec_items c.extend-from-slice-2.new.self)
+      (vec_items c.extend_from_slice-2.new.self)
       (vec_items c.push-3.new.self)
       (codes "0 ")
       (decimal c.args.number)
@@ -22,12 +22,12 @@ returns c = record {
       (32 ∷ [])
       (words_for c.args.number)
       (10 ∷ [])
-      c.in-ok-extend-from-slice.ensures.items
-      c.in-ok-show-number.ensures.is
-      c.in-ok-push.ensures.items
-      c.in-ok-show-number-2.ensures.is
-      c.in-ok-push-2.ensures.items
-      (known_as (vec_items c.push-2.new.self) c.as-bytes.result.now c.what-is-wrong.result.now (words_for c.args.number) (vec_items c.extend-from-slice-2.new.self) c.in-ok-extend-from-slice-2.ensures.items c.as-bytes.ensures.value c.what-is-wrong.ensures)
-      c.in-ok-push-3.ensures.items;
+      c.in_ok-extend_from_slice.ensures.items
+      c.in_ok-show_number.ensures.is
+      c.in_ok-push.ensures.items
+      c.in_ok-show_number-2.ensures.is
+      c.in_ok-push-2.ensures.items
+      (known_as (vec_items c.push-2.new.self) c.as_bytes.result.now c.what_is_wrong.result.now (words_for c.args.number) (vec_items c.extend_from_slice-2.new.self) c.in_ok-extend_from_slice-2.ensures.items c.as_bytes.ensures.value c.what_is_wrong.ensures)
+      c.in_ok-push-3.ensures.items;
   grows = search rules;
 }

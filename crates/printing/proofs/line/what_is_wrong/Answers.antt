@@ -27,6 +27,6 @@ pub returns-in-6 : goal.returns-in-6
 unfolding words_for
 returns-in-6 c = sym (ap words_for c.in-6.is)
 
-pub returns-in-default : goal.returns-in-default
+pub returns-in_default : goal.returns-in_default
 unfolding words_for
-returns-in-default c = grind (arith, nat_tests)
+returns-in_default c = grind (arith, nat_tests)

@@ -1,4 +1,4 @@
 use Rattle.printing.proofs.number.+show_number.Given as goal
 
-abbrev pub decreases-show-number : goal.decreases-show-number
-decreases-show-number l = l.n
+abbrev pub decreases-show_number : goal.decreases-show_number
+decreases-show_number l = l.n

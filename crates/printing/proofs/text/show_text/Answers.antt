@@ -7,12 +7,12 @@ loop-word-init c = (omega arith, none (vec_items c.push.new.self))
 
 pub loop-word-preserved : goal.loop-word-preserved
 loop-word-preserved c = (
-  omega (arith, c.in-ok-show-byte.ensures.grows),
-  step (vec_items c.push.new.self) (vec_items c.loop-word.out) (vec_items c.show-byte.new.out) c.args.words.now c.loop-word.word-index c.loop-word-test.true c.loop-word.invariant.1 c.in-ok-show-byte.ensures.is,
+  omega (arith, c.in_ok-show_byte.ensures.grows),
+  step (vec_items c.push.new.self) (vec_items c.loop-word.out) (vec_items c.show_byte.new.out) c.args.words.now c.loop-word.word-index c.loop-word-test.true c.loop-word.invariant.1 c.in_ok-show_byte.ensures.is,
 )
 
 pub returns : goal.returns
 returns c = record {
-  is = closed (vec_items c.args.out.now) (vec_items c.push.new.self) (vec_items c.loop-word.out) (vec_items c.push-2.new.self) c.args.words.now c.loop-word.word-index c.loop-word-test.false c.in-ok-push.ensures.items c.loop-word.invariant.1 c.in-ok-push-2.ensures.items;
+  is = closed (vec_items c.args.out.now) (vec_items c.push.new.self) (vec_items c.loop-word.out) (vec_items c.push-2.new.self) c.args.words.now c.loop-word.word-index c.loop-word-test.false c.in_ok-push.ensures.items c.loop-word.invariant.1 c.in_ok-push-2.ensures.items;
   grows = search rules;
 }

@@ -13,10 +13,10 @@ loop-i-preserved c =
       step c.args.words.now c.args.at c.args.count c.loop-i.i c.loop-i.end c.in-Some.span c.loop-i-test.true c.loop-i.invariant.2 n,
     )
 
-pub returns-in-default : goal.returns-in-default
-returns-in-default c = record {
+pub returns-in_default : goal.returns-in_default
+returns-in_default c = record {
   ends = tt;
-  past = cut_off c.args.words.now c.args.at c.args.count c.loop-i.i c.loop-i.end c.loop-i-test.true c.loop-i.invariant.2 c.in-default.ensures;
+  past = cut_off c.args.words.now c.args.at c.args.count c.loop-i.i c.loop-i.end c.loop-i-test.true c.loop-i.invariant.2 c.in_default.ensures;
 }
 
 pub returns : goal.returns

@@ -17,4 +17,4 @@ loop-i-preserved c =
     alike_on _ _ c.loop-i.i c.shorter-n.result c.loop-i-test.true s.0 s.1 c.loop-i.invariant (λ h. let g = c.if-x-i.false in omega arith) (λ h. let g = c.if-y-i.false in omega arith)
 
 pub returns : goal.returns
-returns c = ends _ _ c.loop-i.i c.shorter-n.result c.by-length.result c.loop-i.invariant c.loop-i-test.false c.loop-i.auto.i-end c.shorter-n.ensures c.by-length.ensures
+returns c = ends _ _ c.loop-i.i c.shorter-n.result c.by_length.result c.loop-i.invariant c.loop-i-test.false c.loop-i.auto.i-end c.shorter-n.ensures c.by_length.ensures

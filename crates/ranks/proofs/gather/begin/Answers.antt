@@ -4,14 +4,14 @@ use Rattle.ranks.specs.declared.names.Place.{Place}
 use Rattle.ranks.proofs.Requests.{begin_listed, begin_there, begin_alone}
 use Rattle.ranks.proofs.gather.begin.Goals as goal
 
-pub push-reserved-requires : goal.push-reserved-requires
-push-reserved-requires c = let t = c.truncate.ensures.items in let k = c.truncate.ensures.capacity in let h = c.requires in let l = ap (λ (z : List Place). length z) t in omega arith
+pub push_reserved-requires : goal.push_reserved-requires
+push_reserved-requires c = let t = c.truncate.ensures.items in let k = c.truncate.ensures.capacity in let h = c.requires in let l = ap (λ (z : List Place). length z) t in omega arith
 
 pub returns : goal.returns
 returns c =
-    let e = c.push-reserved.ensures.items ∙ ap (λ (z : List Place). z ++ (nowhere ∷ [])) c.truncate.ensures.items in
+    let e = c.push_reserved.ensures.items ∙ ap (λ (z : List Place). z ++ (nowhere ∷ [])) c.truncate.ensures.items in
     record {
-      listed = begin_listed c.args.bytes.now (record { places = c.push-reserved.new.self }) e (let k = c.truncate.ensures.capacity in let j = c.push-reserved.ensures.capacity in let h = c.requires in omega arith);
-      there = begin_there c.args.bytes.now (record { places = c.push-reserved.new.self }) e;
-      alone = begin_alone c.args.bytes.now (record { places = c.push-reserved.new.self }) e;
+      listed = begin_listed c.args.bytes.now (record { places = c.push_reserved.new.self }) e (let k = c.truncate.ensures.capacity in let j = c.push_reserved.ensures.capacity in let h = c.requires in omega arith);
+      there = begin_there c.args.bytes.now (record { places = c.push_reserved.new.self }) e;
+      alone = begin_alone c.args.bytes.now (record { places = c.push_reserved.new.self }) e;
     }

@@ -9,7 +9,7 @@ pub returns-then-bytes-at-lt5 : goal.returns-then-bytes-at-lt5
 returns-then-bytes-at-lt5 c = record { kept = kept_none _ _ c.requires.listed; taken = head_short _ _ c.args.at c.in-Record.k c.args.node c.in-Record.is c.requires.within c.if-bytes-at-lt5.true }
 
 pub returns-else-bytes-at-lt5 : goal.returns-else-bytes-at-lt5
-returns-else-bytes-at-lt5 c = record { kept = c.put-names.ensures.kept; taken = head_rec _ _ _ c.args.at c.in-Record.k c.args.node c.in-Record.is c.put-names.ensures.taken }
+returns-else-bytes-at-lt5 c = record { kept = c.put_names.ensures.kept; taken = head_rec _ _ _ c.args.at c.in-Record.k c.args.node c.in-Record.is c.put_names.ensures.taken }
 
 pub returns-in-Nothing : goal.returns-in-Nothing
 returns-in-Nothing c = record { kept = kept_none _ _ c.requires.listed; taken = head_plain _ _ c.args.at c.args.node (λ h t. no_names h _ unit_names (subst (λ (z : TypeNode). TellsType z h) c.in-Nothing.is t)) }

@@ -7,7 +7,7 @@ pub returns-then-bytes-at-lt5 : goal.returns-then-bytes-at-lt5
 returns-then-bytes-at-lt5 c = record { kept = kept_none _ _ c.requires.listed; taken = only_short _ _ c.args.at c.in-Only.k c.args.o c.in-Only.is (let h = c.requires.within in omega arith) c.if-bytes-at-lt5.true }
 
 pub returns-else-bytes-at-lt5 : goal.returns-else-bytes-at-lt5
-returns-else-bytes-at-lt5 c = record { kept = c.put-names.ensures.kept; taken = only_taken _ _ _ c.args.at c.in-Only.k c.args.o c.in-Only.is c.put-names.ensures.taken }
+returns-else-bytes-at-lt5 c = record { kept = c.put_names.ensures.kept; taken = only_taken _ _ _ c.args.at c.in-Only.k c.args.o c.in-Only.is c.put_names.ensures.taken }
 
 pub returns-in-Dot : goal.returns-in-Dot
 returns-in-Dot c = record { kept = c.named.ensures.kept; taken = dot_taken _ _ _ c.args.at c.in-Dot.n _ c.args.o c.in-Dot.is c.named.ensures }

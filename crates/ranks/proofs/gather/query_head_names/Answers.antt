@@ -4,16 +4,16 @@ use Rattle.ranks.proofs.QueryNames.{head_plain, just_taken, left_taken, right_ta
 use Rattle.ranks.proofs.gather.query_head_names.Goals as goal
 
 pub returns-in-Just : goal.returns-in-Just
-returns-in-Just c = record { kept = c.type-after.ensures.kept; taken = just_taken _ _ _ c.args.at _ c.args.node c.in-Just.is (c.type-after.ensures.taken c.requires.within) }
+returns-in-Just c = record { kept = c.type_after.ensures.kept; taken = just_taken _ _ _ c.args.at _ c.args.node c.in-Just.is (c.type_after.ensures.taken c.requires.within) }
 
 pub returns-in-OnLeft : goal.returns-in-OnLeft
-returns-in-OnLeft c = record { kept = c.type-after-in-OnLeft.ensures.kept; taken = left_taken _ _ _ c.args.at _ c.args.node c.in-OnLeft.is (c.type-after-in-OnLeft.ensures.taken c.requires.within) }
+returns-in-OnLeft c = record { kept = c.type_after-in-OnLeft.ensures.kept; taken = left_taken _ _ _ c.args.at _ c.args.node c.in-OnLeft.is (c.type_after-in-OnLeft.ensures.taken c.requires.within) }
 
 pub returns-in-OnRight : goal.returns-in-OnRight
-returns-in-OnRight c = record { kept = c.type-after-in-OnRight.ensures.kept; taken = right_taken _ _ _ c.args.at _ c.args.node c.in-OnRight.is (c.type-after-in-OnRight.ensures.taken c.requires.within) }
+returns-in-OnRight c = record { kept = c.type_after-in-OnRight.ensures.kept; taken = right_taken _ _ _ c.args.at _ c.args.node c.in-OnRight.is (c.type_after-in-OnRight.ensures.taken c.requires.within) }
 
 pub returns-in-One : goal.returns-in-One
-returns-in-One c = record { kept = c.op-names.ensures.kept; taken = one_taken _ _ _ c.args.at c.args.node c.in-One.o c.in-One.is c.op-names.ensures.taken }
+returns-in-One c = record { kept = c.op_names.ensures.kept; taken = one_taken _ _ _ c.args.at c.args.node c.in-One.o c.in-One.is c.op_names.ensures.taken }
 
 pub returns-in-Matched : goal.returns-in-Matched
 returns-in-Matched c = record { kept = kept_two _ _ _ _ c.named-end.ensures.kept c.named.ensures.kept; taken = matched_taken _ _ _ _ c.args.at c.in-Matched.m c.in-Matched.n _ _ c.args.node c.in-Matched.is c.named-end.ensures c.named.ensures }

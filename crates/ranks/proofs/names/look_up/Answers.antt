@@ -9,8 +9,8 @@ loop-low-init c = half_all _ _ _ (sym (names_length c.args.bytes.now c.args.plac
 pub bounds-places-mid : goal.bounds-places-mid
 bounds-places-mid c = let e = names_length c.args.bytes.now c.args.places.now in omega arith
 
-pub compare-at-requires : goal.compare-at-requires
-compare-at-requires c = let e = names_length c.args.bytes.now c.args.places.now in c.requires.lie c.middle-mid.result (omega arith)
+pub compare_at-requires : goal.compare_at-requires
+compare_at-requires c = let e = names_length c.args.bytes.now c.args.places.now in c.requires.lie c.middle-mid.result (omega arith)
 
 pub loop-low-preserved-in-Less : goal.loop-low-preserved-in-Less
 loop-low-preserved-in-Less c = let m = c.middle-mid.ensures in half_low _ _ _ _ c.middle-mid.result c.requires.ordered m.0 m.1 c.loop-low.invariant (ap (λ z. less_text z c.args.name.now) (names_get c.args.bytes.now c.args.places.now c.middle-mid.result) ∙ c.in-Less.ensures)
@@ -24,8 +24,8 @@ loop-low-preserved c = let m = c.middle-mid.ensures in half_high _ _ _ _ c.middl
 pub returns : goal.returns
 returns c = half_done _ _ _ _ c.loop-low-test.false c.loop-low.invariant
 
-pub offset-bounds-places-mid : goal.offset-bounds-places-mid
-offset-bounds-places-mid c = let e = names_length c.args.bytes.now c.args.places.now in omega arith
+pub offset_bounds-places-mid : goal.offset_bounds-places-mid
+offset_bounds-places-mid c = let e = names_length c.args.bytes.now c.args.places.now in omega arith
 
-pub overflow-add-low : goal.overflow-add-low
-overflow-add-low c = let e = names_length c.args.bytes.now c.args.places.now in omega arith
+pub overflow_add-low : goal.overflow_add-low
+overflow_add-low c = let e = names_length c.args.bytes.now c.args.places.now in omega arith

@@ -5,14 +5,14 @@ use Rattle.ranks.specs.declared.names.Place.{Place}
 use Rattle.ranks.proofs.Listings.{put_none, put_full, put_in, there, part_same, put_at_part, names_length}
 use Rattle.ranks.proofs.names.put.Goals as goal
 
-pub returns-in-default : goal.returns-in-default
-returns-in-default c =
+pub returns-in_default : goal.returns-in_default
+returns-in_default c =
     let v = c.deref.ensures.value in
-    let e = c.in-default.ensures in
+    let e = c.in_default.ensures in
     put_none c.args.bytes.now c.args.names.now _ c.requires.listed
-    (there c.args.bytes.now (vec_items c.args.names.now.places) _ c.in-default.field-0
-    (subst (λ (z : List Place). c.in-default.field-0 < length z) v e.0)
-    (ap (λ (z : List Place). name_at c.args.bytes.now (get_or z c.in-default.field-0 nowhere)) (sym v) ∙ (e.1 ∙ part_same c.args.bytes.now c.args.start c.args.long)))
+    (there c.args.bytes.now (vec_items c.args.names.now.places) _ c.in_default.field-0
+    (subst (λ (z : List Place). c.in_default.field-0 < length z) v e.0)
+    (ap (λ (z : List Place). name_at c.args.bytes.now (get_or z c.in_default.field-0 nowhere)) (sym v) ∙ (e.1 ∙ part_same c.args.bytes.now c.args.start c.args.long)))
 
 pub returns-then-len-ge8200 : goal.returns-then-len-ge8200
 returns-then-len-ge8200 c = put_full c.args.bytes.now c.args.names.now _ c.requires.listed (omega arith)

@@ -5,17 +5,17 @@ use Rattle.records.proofs.field.field.Goals as goal
 pub loop-i-init : goal.loop-i-init
 loop-i-init c = none_found c.args.bytes.now c.args.name c.args.place _
 
-pub overflow-mul-here : goal.overflow-mul-here
-overflow-mul-here c = omega (arith, c.requires.fits, c.requires.below.spots c.loop-i.i c.loop-i-test.true)
+pub overflow_mul-here : goal.overflow_mul-here
+overflow_mul-here c = omega (arith, c.requires.fits, c.requires.below.spots c.loop-i.i c.loop-i-test.true)
 
-pub overflow-add-here : goal.overflow-add-here
-overflow-add-here c = omega (arith, c.requires.fits, c.requires.below.spots c.loop-i.i c.loop-i-test.true)
+pub overflow_add-here : goal.overflow_add-here
+overflow_add-here c = omega (arith, c.requires.fits, c.requires.below.spots c.loop-i.i c.loop-i-test.true)
 
-pub overflow-add-here-in-loop-i : goal.overflow-add-here-in-loop-i
-overflow-add-here-in-loop-i c = omega (arith, c.requires.fits, c.requires.below.spots c.loop-i.i c.loop-i-test.true)
+pub overflow_add-here-in-loop-i : goal.overflow_add-here-in-loop-i
+overflow_add-here-in-loop-i c = omega (arith, c.requires.fits, c.requires.below.spots c.loop-i.i c.loop-i-test.true)
 
-pub overflow-add-here-then-is-named : goal.overflow-add-here-then-is-named
-overflow-add-here-then-is-named c = omega (arith, c.requires.fits, c.requires.below.spots c.loop-i.i c.loop-i-test.true)
+pub overflow_add-here-then-is_named : goal.overflow_add-here-then-is_named
+overflow_add-here-then-is_named c = omega (arith, c.requires.fits, c.requires.below.spots c.loop-i.i c.loop-i-test.true)
 
 pub word-start-requires : goal.word-start-requires
 word-start-requires c = omega (arith, c.requires.below.spots c.loop-i.i c.loop-i-test.true)
@@ -26,11 +26,11 @@ word-count-requires c = omega (arith, c.requires.below.spots c.loop-i.i c.loop-i
 pub load-requires : goal.load-requires
 load-requires c = record { fits = c.requires.fits; within = omega (arith, c.requires.below.spots c.loop-i.i c.loop-i-test.true) }
 
-pub returns-then-is-named : goal.returns-then-is-named
-returns-then-is-named c = this_one c.args.bytes.now c.args.name c.args.place _ c.loop-i.i c.loop-i.invariant c.word-start.result c.word-count.result c.loop-i-test.true c.word-start.ensures c.word-count.ensures c.load.result c.load.ensures c.if-is-named.ensures
+pub returns-then-is_named : goal.returns-then-is_named
+returns-then-is_named c = this_one c.args.bytes.now c.args.name c.args.place _ c.loop-i.i c.loop-i.invariant c.word-start.result c.word-count.result c.loop-i-test.true c.word-start.ensures c.word-count.ensures c.load.result c.load.ensures c.if-is_named.ensures
 
 pub loop-i-preserved : goal.loop-i-preserved
-loop-i-preserved c = not_this c.args.bytes.now c.args.name c.args.place _ c.loop-i.i c.loop-i.invariant c.word-start.result c.word-count.result c.loop-i-test.true c.word-start.ensures c.word-count.ensures c.if-is-named.ensures
+loop-i-preserved c = not_this c.args.bytes.now c.args.name c.args.place _ c.loop-i.i c.loop-i.invariant c.word-start.result c.word-count.result c.loop-i-test.true c.word-start.ensures c.word-count.ensures c.if-is_named.ensures
 
 pub returns : goal.returns
 returns c = not_there c.args.bytes.now c.args.name c.args.place _ c.loop-i.i c.loop-i.invariant (omega (arith, c.loop-i.auto.i-end, c.loop-i-test.false))

@@ -9,8 +9,8 @@ returns-then-eq c =
     let first = c.args.first in
     let second = c.args.second in
     let third = c.args.third in
-    let work : string_bytes word ≡ codes "--work" = sym c.as-str.ensures.value ∙ c.eq.ensures.0 c.if-eq.true in
-    MatchResult-weaker c.call-for.result c.call-for.ensures
+    let work : string_bytes word ≡ codes "--work" = sym c.as_str.ensures.value ∙ c.eq.ensures.0 c.if-eq.true in
+    MatchResult-weaker c.call_for.result c.call_for.ensures
     (λ x p. with_option (λ s. string_bytes s) first second third word c.in-Some.is work x.work x.file p.0 p.1)
     (λ e p. (p.0, no_file_with (λ s. string_bytes s) first second third word c.in-Some.is work p.1))
 
@@ -20,7 +20,7 @@ returns c =
     let first = c.args.first in
     let second = c.args.second in
     let third = c.args.third in
-    let plain : string_bytes word ≡ codes "--work" → ⊥ = λ h. (let t : c.eq.result ≡ true = c.eq.ensures.1 (c.as-str.ensures.value ∙ h) in let f : c.eq.result ≡ false = c.if-eq.false in let z : ◌≡◌ {A = ℕ} 0 1 = cc in omega arith) in
-    MatchResult-weaker c.call-for-2.result c.call-for-2.ensures
+    let plain : string_bytes word ≡ codes "--work" → ⊥ = λ h. (let t : c.eq.result ≡ true = c.eq.ensures.1 (c.as_str.ensures.value ∙ h) in let f : c.eq.result ≡ false = c.if-eq.false in let z : ◌≡◌ {A = ℕ} 0 1 = cc in omega arith) in
+    MatchResult-weaker c.call_for-2.result c.call_for-2.ensures
     (λ x p. no_option (λ s. string_bytes s) first second third word c.in-Some.is plain x.work x.file p.0 p.1)
     (λ e p. (p.0, no_file (λ s. string_bytes s) first second third word c.in-Some.is plain p.1))

@@ -17,12 +17,12 @@ returns-in-Product c = record {
 
 pub returns-in-Matched : goal.returns-in-Matched
 returns-in-Matched c = record {
-  grew = c.matched-at.ensures.grew;
-  told = joint_matched _ _ _ c.args.pos c.args.x c.args.y c.args.op _ c.in-Matched.m c.in-Matched.n c.in-Matched.is c.matched-at.ensures.told;
+  grew = c.matched_at.ensures.grew;
+  told = joint_matched _ _ _ c.args.pos c.args.x c.args.y c.args.op _ c.in-Matched.m c.in-Matched.n c.in-Matched.is c.matched_at.ensures.told;
 }
 
 pub returns-in-Default : goal.returns-in-Default
 returns-in-Default c = record {
-  grew = c.join-bags.ensures.grew;
-  told = joint_default _ _ _ c.args.pos c.args.x c.args.y c.args.op _ (ranked_as c.requires.same (ranked _ c.requires.listed.ordered)) c.in-Default.is c.join-bags.ensures.says;
+  grew = c.join_bags.ensures.grew;
+  told = joint_default _ _ _ c.args.pos c.args.x c.args.y c.args.op _ (ranked_as c.requires.same (ranked _ c.requires.listed.ordered)) c.in-Default.is c.join_bags.ensures.says;
 }

@@ -5,9 +5,9 @@ use Rattle.typed.proofs.part.leaf_type.Goals as goal
 
 pub returns-in-Table : goal.returns-in-Table
 returns-in-Table c = record {
-  grew = stay _ c.requires.ready.tidy (c.table-at.ensures.within _ c.requires.ready.schema);
+  grew = stay _ c.requires.ready.tidy (c.table_at.ensures.within _ c.requires.ready.schema);
   fit = c.requires.ready.fit;
-  told = leaf_table _ _ c.args.pos c.args.last c.args.leaf c.args.env c.args.it c.in-Table.n _ c.in-Table.is (c.table-at.ensures.is _ _);
+  told = leaf_table _ _ c.args.pos c.args.last c.args.leaf c.args.env c.args.it c.in-Table.n _ c.in-Table.is (c.table_at.ensures.is _ _);
 }
 
 pub returns-in-It : goal.returns-in-It

@@ -11,20 +11,20 @@ use Rattle.typed.proofs.part.over_type.Goals as goal
 pub returns-in-Each : goal.returns-in-Each
 unfolding type1
 returns-in-Each c = record {
-  grew = c.in-bag.ensures.grew;
-  says = λ ns rk. meant_as (c.in-bag.ensures.says ns rk) _ (ap (λ (z : Over). over_type z (type_at ns (look c.args.table.now) c.args.x) (type_at ns (look c.args.table.now) c.args.v)) c.in-Each.is);
+  grew = c.in_bag.ensures.grew;
+  says = λ ns rk. meant_as (c.in_bag.ensures.says ns rk) _ (ap (λ (z : Over). over_type z (type_at ns (look c.args.table.now) c.args.x) (type_at ns (look c.args.table.now) c.args.v)) c.in-Each.is);
 }
 
-pub returns-then-is-truth : goal.returns-then-is-truth
-returns-then-is-truth c = record {
+pub returns-then-is_truth : goal.returns-then-is_truth
+returns-then-is_truth c = record {
   grew = stay (Some c.args.x) c.requires.tidy c.requires.bag;
   says = λ ns rk. stays 1 0 (Some c.args.x) _
-      (ap (λ (z : Over). over_type z (type_at ns (look c.args.table.now) c.args.x) (type_at ns (look c.args.table.now) c.args.v)) c.in-Keep.is ∙ if_yes _ _ (c.if-is-truth.ensures ns));
+      (ap (λ (z : Over). over_type z (type_at ns (look c.args.table.now) c.args.x) (type_at ns (look c.args.table.now) c.args.v)) c.in-Keep.is ∙ if_yes _ _ (c.if-is_truth.ensures ns));
 }
 
-pub returns-else-is-truth : goal.returns-else-is-truth
-returns-else-is-truth c = record {
+pub returns-else-is_truth : goal.returns-else-is_truth
+returns-else-is_truth c = record {
   grew = stay None c.requires.tidy tt;
   says = λ ns rk. stays 1 0 None _
-      (ap (λ (z : Over). over_type z (type_at ns (look c.args.table.now) c.args.x) (type_at ns (look c.args.table.now) c.args.v)) c.in-Keep.is ∙ if_no _ _ (c.if-is-truth.ensures ns));
+      (ap (λ (z : Over). over_type z (type_at ns (look c.args.table.now) c.args.x) (type_at ns (look c.args.table.now) c.args.v)) c.in-Keep.is ∙ if_no _ _ (c.if-is_truth.ensures ns));
 }

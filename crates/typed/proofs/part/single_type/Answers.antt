@@ -6,8 +6,8 @@ use Rattle.typed.proofs.Walking.{ranked_in}
 use Rattle.typed.proofs.Operators.{single_op, left_none, right_none, left_some, right_some}
 use Rattle.typed.proofs.part.single_type.Goals as goal
 
-pub returns-in-default : goal.returns-in-default
-returns-in-default c = let e = c.in-default.ensures in record { grew = e.grew; fit = e.fit; told = left_none _ _ c.args.pos c.args.x c.args.op _ c.in-Left.is e.told }
+pub returns-in_default : goal.returns-in_default
+returns-in_default c = let e = c.in_default.ensures in record { grew = e.grew; fit = e.fit; told = left_none _ _ c.args.pos c.args.x c.args.op _ c.in-Left.is e.told }
 
 pub make-requires : goal.make-requires
 unfolding Below
@@ -17,15 +17,15 @@ make-requires c =
     let b : c.in-Some.y < size c.one_type.new.table = g.here in
     record { tidy = g.tidy; plain = tt; parts = (omega arith, omega arith) }
 
-pub returns-in-default-one-type : goal.returns-in-default-one-type
-returns-in-default-one-type c = let e = c.in-default-one-type.ensures in record { grew = e.grew; fit = e.fit; told = right_none _ _ c.args.pos c.args.x c.args.op _ c.in-Right.is e.told }
+pub returns-in_default-one_type : goal.returns-in_default-one_type
+returns-in_default-one_type c = let e = c.in_default-one_type.ensures in record { grew = e.grew; fit = e.fit; told = right_none _ _ c.args.pos c.args.x c.args.op _ c.in-Right.is e.told }
 
 pub make-requires-in-Right : goal.make-requires-in-Right
 unfolding Below
 make-requires-in-Right c =
-    let g = c.in-Some-one-type.ensures.grew in
+    let g = c.in-Some-one_type.ensures.grew in
     let a = still g c.args.x c.requires.part in
-    let b : c.in-Some-one-type.y < size c.one-type-in-Right.new.table = g.here in
+    let b : c.in-Some-one_type.y < size c.one_type-in-Right.new.table = g.here in
     record { tidy = g.tidy; plain = tt; parts = (omega arith, omega arith) }
 
 pub returns-in-Op : goal.returns-in-Op
@@ -44,11 +44,11 @@ returns-in-Some c =
       told = left_some _ _ c.args.pos c.args.x c.args.op _ _ c.in-Some.y _ c.requires.part e.grew e.told (ranked_as e.grew.names (ranked_in c.requires.ready)) c.in-Left.is c.make.ensures.says;
     }
 
-pub returns-in-Some-one-type : goal.returns-in-Some-one-type
-returns-in-Some-one-type c =
-    let e = c.in-Some-one-type.ensures in
+pub returns-in-Some-one_type : goal.returns-in-Some-one_type
+returns-in-Some-one_type c =
+    let e = c.in-Some-one_type.ensures in
     record {
       grew = grew_two e.grew c.make-in-Right.ensures.grew;
       fit = e.fit;
-      told = right_some _ _ c.args.pos c.args.x c.args.op _ _ c.in-Some-one-type.y _ c.requires.part e.grew e.told (ranked_as e.grew.names (ranked_in c.requires.ready)) c.in-Right.is c.make-in-Right.ensures.says;
+      told = right_some _ _ c.args.pos c.args.x c.args.op _ _ c.in-Some-one_type.y _ c.requires.part e.grew e.told (ranked_as e.grew.names (ranked_in c.requires.ready)) c.in-Right.is c.make-in-Right.ensures.says;
     }

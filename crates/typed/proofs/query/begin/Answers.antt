@@ -6,10 +6,10 @@ use Rattle.typed.proofs.query.begin.Goals as goal
 
 pub returns : goal.returns
 returns c =
-    let e = c.push-reserved.ensures.items ∙ ap (λ (z : List Entry). z ++ (Unit' ∷ [])) c.truncate.ensures.items in
+    let e = c.push_reserved.ensures.items ∙ ap (λ (z : List Entry). z ++ (Unit' ∷ [])) c.truncate.ensures.items in
     let f = c.truncate-2.ensures.items in
     record {
-      tidy = begun _ e f (let k = c.truncate.ensures.capacity in let j = c.push-reserved.ensures.capacity in let h = c.requires.entries in omega arith) (let k = c.truncate-2.ensures.capacity in let h = c.requires.fields in omega arith);
+      tidy = begun _ e f (let k = c.truncate.ensures.capacity in let j = c.push_reserved.ensures.capacity in let h = c.requires.entries in omega arith) (let k = c.truncate-2.ensures.capacity in let h = c.requires.fields in omega arith);
       names = refl;
       entries = e;
       fields = f;

@@ -9,8 +9,8 @@ loop-i-init c = (
   ap (λ (z : List ℕ). z ++ drop c.args.top c.args.stack.now) c.truncate.ensures.items,
 )
 
-pub push-reserved-requires : goal.push-reserved-requires
-push-reserved-requires c =
+pub push_reserved-requires : goal.push_reserved-requires
+push_reserved-requires c =
     let h = c.loop-i.invariant.0 in
     let e = ap (λ (z : List ℕ). length z) c.loop-i.invariant.1 in
     let k = c.requires.few in
@@ -18,8 +18,8 @@ push-reserved-requires c =
 
 pub loop-i-preserved : goal.loop-i-preserved
 loop-i-preserved c = (
-  let h = c.loop-i.invariant.0 in let k = c.push-reserved.ensures.capacity in omega arith,
-  copied_on c.args.stack.now _ _ c.args.top c.loop-i.i c.loop-i-test.true c.loop-i.invariant.1 c.push-reserved.ensures.items,
+  let h = c.loop-i.invariant.0 in let k = c.push_reserved.ensures.capacity in omega arith,
+  copied_on c.args.stack.now _ _ c.args.top c.loop-i.i c.loop-i-test.true c.loop-i.invariant.1 c.push_reserved.ensures.items,
 )
 
 pub returns : goal.returns

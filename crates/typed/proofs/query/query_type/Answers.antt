@@ -6,35 +6,35 @@ use Rattle.typed.proofs.query.query_type.Goals as goal
 
 pub load-requires : goal.load-requires
 load-requires c = record {
-  listed = c.request-names.ensures.listed;
-  within = c.if-schema-at-bytes.false;
+  listed = c.request_names.ensures.listed;
+  within = c.if-schema_at-bytes.false;
   tidy = c.begin.ensures.tidy;
-  same = counted c.args.bytes.now c.request-names.new.names _ _ c.begin.ensures.names c.len.ensures;
+  same = counted c.args.bytes.now c.request_names.new.names _ _ c.begin.ensures.names c.len.ensures;
   fit = c.requires.roomy.work;
 }
 
-pub returns-in-default : goal.returns-in-default
-returns-in-default c =
-    let d = c.in-default.ensures in
+pub returns-in_default : goal.returns-in_default
+returns-in_default c =
+    let d = c.in_default.ensures in
     let b = c.begin.ensures in
     record {
-      roomy = record { places = c.request-names.ensures.listed.cap; entries = d.grew.tidy.entries; fields = d.grew.tidy.fields; work = d.fit; schema = c.requires.roomy.schema };
+      roomy = record { places = c.request_names.ensures.listed.cap; entries = d.grew.tidy.entries; fields = d.grew.tidy.fields; work = d.fit; schema = c.requires.roomy.schema };
       told = record {
-        tells = λ ss q s k g l o. absurd (schema_unsound c.args.bytes.now c.args.guide.now _ c.begin.new.table c.load.new.table _ c.args.schema_at c.args.types c.args.query_at c.request-names.ensures b.entries b.fields
-            (counted c.args.bytes.now c.request-names.new.names _ _ c.begin.ensures.names c.len.ensures) d ss q s k l o);
+        tells = λ ss q s k g l o. absurd (schema_unsound c.args.bytes.now c.args.guide.now _ c.begin.new.table c.load.new.table _ c.args.schema_at c.args.types c.args.query_at c.request_names.ensures b.entries b.fields
+            (counted c.args.bytes.now c.request_names.new.names _ _ c.begin.ensures.names c.len.ensures) d ss q s k l o);
       };
     }
 
-pub type-of-requires : goal.type-of-requires
-type-of-requires c =
+pub type_of-requires : goal.type_of-requires
+type_of-requires c =
     let d = c.in-Some.ensures in
     let b = c.begin.ensures in
-    let n = counted c.args.bytes.now c.request-names.new.names _ _ c.begin.ensures.names c.len.ensures in
-    let e = c.as-slice.ensures.value ∙ c.copy.ensures.is ∙ ap (λ (z : List ℕ). drop c.in-Some.top z) c.deref.ensures.value in
-    let h = some_there c.args.bytes.now c.args.guide.now _ c.begin.new.table c.load.new.table c.load.new.work c.args.schema_at c.args.types c.args.query_at c.request-names.ensures b.entries b.fields n d.grew in
+    let n = counted c.args.bytes.now c.request_names.new.names _ _ c.begin.ensures.names c.len.ensures in
+    let e = c.as_slice.ensures.value ∙ c.copy.ensures.is ∙ ap (λ (z : List ℕ). drop c.in-Some.top z) c.deref.ensures.value in
+    let h = some_there c.args.bytes.now c.args.guide.now _ c.begin.new.table c.load.new.table c.load.new.work c.args.schema_at c.args.types c.args.query_at c.request_names.ensures b.entries b.fields n d.grew in
     record {
       ready = record {
-        listed = c.request-names.ensures.listed;
+        listed = c.request_names.ensures.listed;
         tidy = d.grew.tidy;
         same = d.grew.names ∙ n;
         fit = record { heads = d.fit.heads; stack = d.fit.stack; ranks = d.fit.ranks };
@@ -48,13 +48,13 @@ pub returns : goal.returns
 returns c =
     let d = c.in-Some.ensures in
     let b = c.begin.ensures in
-    let w = c.type-of.ensures in
-    let n = counted c.args.bytes.now c.request-names.new.names _ _ c.begin.ensures.names c.len.ensures in
-    let e = c.as-slice.ensures.value ∙ c.copy.ensures.is ∙ ap (λ (z : List ℕ). drop c.in-Some.top z) c.deref.ensures.value in
+    let w = c.type_of.ensures in
+    let n = counted c.args.bytes.now c.request_names.new.names _ _ c.begin.ensures.names c.len.ensures in
+    let e = c.as_slice.ensures.value ∙ c.copy.ensures.is ∙ ap (λ (z : List ℕ). drop c.in-Some.top z) c.deref.ensures.value in
     record {
-      roomy = record { places = c.request-names.ensures.listed.cap; entries = w.grew.tidy.entries; fields = w.grew.tidy.fields; work = w.fit; schema = c.copy.ensures.cap };
+      roomy = record { places = c.request_names.ensures.listed.cap; entries = w.grew.tidy.entries; fields = w.grew.tidy.fields; work = w.fit; schema = c.copy.ensures.cap };
       told = record {
-        tells = λ ss q s k g l o. query_told c.args.bytes.now c.args.guide.now _ c.begin.new.table c.load.new.table c.load.new.work c.args.schema_at c.args.types c.args.query_at c.request-names.ensures b.entries b.fields n
-            c.in-Some.top c.as-slice.result.now _ _ d e w.told ss q s k g l;
+        tells = λ ss q s k g l o. query_told c.args.bytes.now c.args.guide.now _ c.begin.new.table c.load.new.table c.load.new.work c.args.schema_at c.args.types c.args.query_at c.request_names.ensures b.entries b.fields n
+            c.in-Some.top c.as_slice.result.now _ _ d e w.told ss q s k g l;
       };
     }

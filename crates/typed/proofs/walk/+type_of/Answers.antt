@@ -6,63 +6,63 @@ use Rattle.typed.proofs.walk.+type_of.Goals as goal
 pub returns-then-depth-eq0 : goal.returns-then-depth-eq0
 returns-then-depth-eq0 t c = record { grew = stay None c.requires.ready.tidy tt; fit = c.requires.ready.fit; told = no_depth _ _ c.args.pos c.args.env c.args.it c.args.depth c.if-depth-eq0.true }
 
-pub returns-in-default : goal.returns-in-default
-returns-in-default t c = record { grew = stay None c.requires.ready.tidy tt; fit = c.requires.ready.fit; told = not_seen _ _ c.args.pos c.args.env c.args.it c.args.depth c.in-default.ensures }
+pub returns-in_default : goal.returns-in_default
+returns-in_default t c = record { grew = stay None c.requires.ready.tidy tt; fit = c.requires.ready.fit; told = not_seen _ _ c.args.pos c.args.env c.args.it c.args.depth c.in_default.ensures }
 
 pub returns-in-Leaf : goal.returns-in-Leaf
 returns-in-Leaf t c =
-    let e = c.leaf-type.ensures in
+    let e = c.leaf_type.ensures in
     record { grew = e.grew; fit = e.fit; told = leaf_walked c.args.depth c.requires.ready c.requires.along c.requires.looked c.in-Some.ensures c.in-Leaf.leaf c.in-Leaf.is e.told }
 
 -- one part
-pub returns-in-default-type-of : goal.returns-in-default-type-of
-returns-in-default-type-of t c =
-    let e = c.in-default-type-of.ensures in
+pub returns-in_default-type_of : goal.returns-in_default-type_of
+returns-in_default-type_of t c =
+    let e = c.in_default-type_of.ensures in
     record { grew = e.grew; fit = e.fit; told = single_none c.args.depth c.requires.ready c.requires.along c.requires.looked c.in-Some.ensures c.in-Single.op c.in-Single.is e.told }
 
-pub single-type-requires : goal.single-type-requires
-single-type-requires t c =
-    let e = c.in-Some-type-of.ensures in
+pub single_type-requires : goal.single_type-requires
+single_type-requires t c =
+    let e = c.in-Some-type_of.ensures in
     record { ready = ready_on c.requires.ready e.grew e.fit; here = c.in-Some.ensures.within.here; part = e.grew.here }
 
-pub returns-in-Some-type-of : goal.returns-in-Some-type-of
-returns-in-Some-type-of t c =
-    let e = c.in-Some-type-of.ensures in
-    let s = c.single-type.ensures in
+pub returns-in-Some-type_of : goal.returns-in-Some-type_of
+returns-in-Some-type_of t c =
+    let e = c.in-Some-type_of.ensures in
+    let s = c.single_type.ensures in
     record { grew = grew_two e.grew s.grew; fit = s.fit; told = single_some c.args.depth c.requires.ready c.requires.along c.requires.looked c.in-Some.ensures c.in-Single.op c.in-Single.is e.grew e.told s.told }
 
 -- two parts
-pub returns-in-default-type-of-2 : goal.returns-in-default-type-of-2
-returns-in-default-type-of-2 t c =
-    let e = c.in-default-type-of-2.ensures in
+pub returns-in_default-type_of-2 : goal.returns-in_default-type_of-2
+returns-in_default-type_of-2 t c =
+    let e = c.in_default-type_of-2.ensures in
     record { grew = e.grew; fit = e.fit; told = pair_none c.args.depth c.requires.ready c.requires.along c.requires.looked c.in-Some.ensures c.in-Pair.op c.in-Pair.is e.told }
 
-pub type-of-requires-in-Pair-2 : goal.type-of-requires-in-Pair-2
-type-of-requires-in-Pair-2 t c =
-    let e = c.in-Some-type-of-2.ensures in
+pub type_of-requires-in-Pair-2 : goal.type_of-requires-in-Pair-2
+type_of-requires-in-Pair-2 t c =
+    let e = c.in-Some-type_of-2.ensures in
     let a = still e.grew c.args.env c.requires.along in
     let b = still e.grew c.args.it c.requires.looked in
     let k = e.grew.here in
     (omega arith, (ready_on c.requires.ready e.grew e.fit, (omega arith, omega arith)))
 
-pub returns-in-default-type-of-3 : goal.returns-in-default-type-of-3
-returns-in-default-type-of-3 t c =
-    let e = c.in-Some-type-of-2.ensures in
-    let f = c.in-default-type-of-3.ensures in
+pub returns-in_default-type_of-3 : goal.returns-in_default-type_of-3
+returns-in_default-type_of-3 t c =
+    let e = c.in-Some-type_of-2.ensures in
+    let f = c.in_default-type_of-3.ensures in
     record { grew = grew_two e.grew f.grew; fit = f.fit; told = pair_none_second c.args.depth c.requires.ready c.requires.along c.requires.looked c.in-Some.ensures c.in-Pair.op c.in-Pair.is e.grew e.told f.told }
 
-pub joint-type-requires : goal.joint-type-requires
-joint-type-requires t c =
-    let e = c.in-Some-type-of-2.ensures in
-    let f = c.in-Some-type-of-3.ensures in
+pub joint_type-requires : goal.joint_type-requires
+joint_type-requires t c =
+    let e = c.in-Some-type_of-2.ensures in
+    let f = c.in-Some-type_of-3.ensures in
     let r = c.requires.ready in
-    record { listed = r.listed; tidy = f.grew.tidy; same = f.grew.names ∙ e.grew.names ∙ r.same; here = c.in-Some.ensures.within.here; first = still f.grew c.in-Some-type-of-2.x e.grew.here; second = f.grew.here }
+    record { listed = r.listed; tidy = f.grew.tidy; same = f.grew.names ∙ e.grew.names ∙ r.same; here = c.in-Some.ensures.within.here; first = still f.grew c.in-Some-type_of-2.x e.grew.here; second = f.grew.here }
 
-pub returns-in-Some-type-of-3 : goal.returns-in-Some-type-of-3
-returns-in-Some-type-of-3 t c =
-    let e = c.in-Some-type-of-2.ensures in
-    let f = c.in-Some-type-of-3.ensures in
-    let s = c.joint-type.ensures in
+pub returns-in-Some-type_of-3 : goal.returns-in-Some-type_of-3
+returns-in-Some-type_of-3 t c =
+    let e = c.in-Some-type_of-2.ensures in
+    let f = c.in-Some-type_of-3.ensures in
+    let s = c.joint_type.ensures in
     record {
       grew = grew_two e.grew (grew_two f.grew s.grew);
       fit = f.fit;
@@ -70,45 +70,45 @@ returns-in-Some-type-of-3 t c =
     }
 
 -- the first part for each of the second
-pub returns-in-default-type-of-4 : goal.returns-in-default-type-of-4
-returns-in-default-type-of-4 t c =
-    let e = c.in-default-type-of-4.ensures in
+pub returns-in_default-type_of-4 : goal.returns-in_default-type_of-4
+returns-in_default-type_of-4 t c =
+    let e = c.in_default-type_of-4.ensures in
     record { grew = e.grew; fit = e.fit; told = over_none c.args.depth c.requires.ready c.requires.along c.requires.looked c.in-Some.ensures c.in-Over.op c.in-Over.is e.told }
 
-pub returns-in-default-elem-of : goal.returns-in-default-elem-of
-returns-in-default-elem-of t c =
-    let e = c.in-Some-type-of-4.ensures in
-    let l = c.in-default-elem-of.ensures in
+pub returns-in_default-elem_of : goal.returns-in_default-elem_of
+returns-in_default-elem_of t c =
+    let e = c.in-Some-type_of-4.ensures in
+    let l = c.in_default-elem_of.ensures in
     record { grew = grew_two e.grew l.grew; fit = e.fit; told = over_no_bag c.args.depth c.requires.ready c.requires.along c.requires.looked c.in-Some.ensures c.in-Over.op c.in-Over.is e.grew e.told l.says }
 
-pub type-of-requires-in-Over-2 : goal.type-of-requires-in-Over-2
-type-of-requires-in-Over-2 t c =
-    let e = c.in-Some-type-of-4.ensures in
+pub type_of-requires-in-Over-2 : goal.type_of-requires-in-Over-2
+type_of-requires-in-Over-2 t c =
+    let e = c.in-Some-type_of-4.ensures in
     let a = still e.grew c.args.env c.requires.along in
     let b = still e.grew c.args.it c.requires.looked in
     let k = e.grew.here in
-    let l = c.in-Some-elem-of.ensures.grew.here in
+    let l = c.in-Some-elem_of.ensures.grew.here in
     (omega arith, (ready_on c.requires.ready e.grew e.fit, (omega arith, omega arith)))
 
-pub returns-in-default-type-of-5 : goal.returns-in-default-type-of-5
-returns-in-default-type-of-5 t c =
-    let e = c.in-Some-type-of-4.ensures in
-    let l = c.in-Some-elem-of.ensures in
-    let f = c.in-default-type-of-5.ensures in
+pub returns-in_default-type_of-5 : goal.returns-in_default-type_of-5
+returns-in_default-type_of-5 t c =
+    let e = c.in-Some-type_of-4.ensures in
+    let l = c.in-Some-elem_of.ensures in
+    let f = c.in_default-type_of-5.ensures in
     record { grew = grew_two e.grew f.grew; fit = f.fit; told = over_none_second c.args.depth c.requires.ready c.requires.along c.requires.looked c.in-Some.ensures c.in-Over.op c.in-Over.is e.grew e.told l.says f.told }
 
-pub over-type-requires : goal.over-type-requires
-over-type-requires t c =
-    let e = c.in-Some-type-of-4.ensures in
-    let f = c.in-Some-type-of-5.ensures in
-    record { tidy = f.grew.tidy; bag = still f.grew c.in-Some-type-of-4.x e.grew.here; thing = f.grew.here }
+pub over_type-requires : goal.over_type-requires
+over_type-requires t c =
+    let e = c.in-Some-type_of-4.ensures in
+    let f = c.in-Some-type_of-5.ensures in
+    record { tidy = f.grew.tidy; bag = still f.grew c.in-Some-type_of-4.x e.grew.here; thing = f.grew.here }
 
-pub returns-in-Some-type-of-5 : goal.returns-in-Some-type-of-5
-returns-in-Some-type-of-5 t c =
-    let e = c.in-Some-type-of-4.ensures in
-    let l = c.in-Some-elem-of.ensures in
-    let f = c.in-Some-type-of-5.ensures in
-    let s = c.over-type.ensures in
+pub returns-in-Some-type_of-5 : goal.returns-in-Some-type_of-5
+returns-in-Some-type_of-5 t c =
+    let e = c.in-Some-type_of-4.ensures in
+    let l = c.in-Some-elem_of.ensures in
+    let f = c.in-Some-type_of-5.ensures in
+    let s = c.over_type.ensures in
     record {
       grew = grew_two e.grew (grew_two f.grew s.grew);
       fit = f.fit;
@@ -116,90 +116,90 @@ returns-in-Some-type-of-5 t c =
     }
 
 -- the first part of what the second comes to
-pub returns-in-default-type-of-6 : goal.returns-in-default-type-of-6
-returns-in-default-type-of-6 t c =
-    let e = c.in-default-type-of-6.ensures in
+pub returns-in_default-type_of-6 : goal.returns-in_default-type_of-6
+returns-in_default-type_of-6 t c =
+    let e = c.in_default-type_of-6.ensures in
     record { grew = e.grew; fit = e.fit; told = then_none c.args.depth c.requires.ready c.requires.along c.requires.looked c.in-Some.ensures c.in-Then.is e.told }
 
-pub type-of-requires-in-Then-2 : goal.type-of-requires-in-Then-2
-type-of-requires-in-Then-2 t c =
-    let e = c.in-Some-type-of-6.ensures in
+pub type_of-requires-in-Then-2 : goal.type_of-requires-in-Then-2
+type_of-requires-in-Then-2 t c =
+    let e = c.in-Some-type_of-6.ensures in
     let a = still e.grew c.args.env c.requires.along in
     let b = still e.grew c.args.it c.requires.looked in
     let k = e.grew.here in
     (omega arith, (ready_on c.requires.ready e.grew e.fit, (omega arith, omega arith)))
 
-pub returns-in-Some-type-of-6 : goal.returns-in-Some-type-of-6
-returns-in-Some-type-of-6 t c =
-    let e = c.in-Some-type-of-6.ensures in
-    let f = c.type-of-in-Then-2.ensures in
+pub returns-in-Some-type_of-6 : goal.returns-in-Some-type_of-6
+returns-in-Some-type_of-6 t c =
+    let e = c.in-Some-type_of-6.ensures in
+    let f = c.type_of-in-Then-2.ensures in
     record { grew = grew_two e.grew f.grew; fit = f.fit; told = then_some c.args.depth c.requires.ready c.requires.along c.requires.looked c.in-Some.ensures c.in-Then.is e.grew e.told f.told }
 
 -- the first part with what the second comes to going along
-pub returns-in-default-type-of-7 : goal.returns-in-default-type-of-7
-returns-in-default-type-of-7 t c =
-    let e = c.in-default-type-of-7.ensures in
+pub returns-in_default-type_of-7 : goal.returns-in_default-type_of-7
+returns-in_default-type_of-7 t c =
+    let e = c.in_default-type_of-7.ensures in
     record { grew = e.grew; fit = e.fit; told = env_none c.args.depth c.requires.ready c.requires.along c.requires.looked c.in-Some.ensures c.in-WithEnv.is e.told }
 
-pub type-of-requires-in-WithEnv-2 : goal.type-of-requires-in-WithEnv-2
-type-of-requires-in-WithEnv-2 t c =
-    let e = c.in-Some-type-of-7.ensures in
+pub type_of-requires-in-WithEnv-2 : goal.type_of-requires-in-WithEnv-2
+type_of-requires-in-WithEnv-2 t c =
+    let e = c.in-Some-type_of-7.ensures in
     let a = still e.grew c.args.env c.requires.along in
     let b = still e.grew c.args.it c.requires.looked in
     let k = e.grew.here in
     (omega arith, (ready_on c.requires.ready e.grew e.fit, (omega arith, omega arith)))
 
-pub returns-in-Some-type-of-7 : goal.returns-in-Some-type-of-7
-returns-in-Some-type-of-7 t c =
-    let e = c.in-Some-type-of-7.ensures in
-    let f = c.type-of-in-WithEnv-2.ensures in
+pub returns-in-Some-type_of-7 : goal.returns-in-Some-type_of-7
+returns-in-Some-type_of-7 t c =
+    let e = c.in-Some-type_of-7.ensures in
+    let f = c.type_of-in-WithEnv-2.ensures in
     record { grew = grew_two e.grew f.grew; fit = f.fit; told = env_some c.args.depth c.requires.ready c.requires.along c.requires.looked c.in-Some.ensures c.in-WithEnv.is e.grew e.told f.told }
 
 -- the first part of a left, the second of a right
-pub returns-in-default-sides-of : goal.returns-in-default-sides-of
-returns-in-default-sides-of t c =
+pub returns-in_default-sides_of : goal.returns-in_default-sides_of
+returns-in_default-sides_of t c =
     let r = c.requires.ready in
-    record { grew = stay None r.tidy tt; fit = r.fit; told = either_no_sides c.args.depth c.requires.ready c.requires.along c.requires.looked c.in-Some.ensures c.in-Either.is (sides_none c.args.table.now r.tidy c.args.it c.requires.looked c.in-default-sides-of.ensures _) }
+    record { grew = stay None r.tidy tt; fit = r.fit; told = either_no_sides c.args.depth c.requires.ready c.requires.along c.requires.looked c.in-Some.ensures c.in-Either.is (sides_none c.args.table.now r.tidy c.args.it c.requires.looked c.in_default-sides_of.ensures _) }
 
-pub type-of-requires-in-Either : goal.type-of-requires-in-Either
-type-of-requires-in-Either t c =
-    let d = sided c.args.table.now c.requires.ready.tidy c.args.it c.requires.looked c.in-Some-sides-of.sides c.in-Some-sides-of.ensures in
+pub type_of-requires-in-Either : goal.type_of-requires-in-Either
+type_of-requires-in-Either t c =
+    let d = sided c.args.table.now c.requires.ready.tidy c.args.it c.requires.looked c.in-Some-sides_of.sides c.in-Some-sides_of.ensures in
     (omega arith, (c.requires.ready, (omega (arith, c.requires.along, d.left, d.right), omega (arith, c.requires.along, d.left, d.right))))
 
-pub returns-in-default-type-of-8 : goal.returns-in-default-type-of-8
-returns-in-default-type-of-8 t c =
-    let d = sided c.args.table.now c.requires.ready.tidy c.args.it c.requires.looked c.in-Some-sides-of.sides c.in-Some-sides-of.ensures in
-    let e = c.in-default-type-of-8.ensures in
+pub returns-in_default-type_of-8 : goal.returns-in_default-type_of-8
+returns-in_default-type_of-8 t c =
+    let d = sided c.args.table.now c.requires.ready.tidy c.args.it c.requires.looked c.in-Some-sides_of.sides c.in-Some-sides_of.ensures in
+    let e = c.in_default-type_of-8.ensures in
     record { grew = e.grew; fit = e.fit; told = either_none c.args.depth c.requires.ready c.requires.along c.requires.looked c.in-Some.ensures c.in-Either.is d e.told }
 
-pub type-of-requires-in-Either-2 : goal.type-of-requires-in-Either-2
-type-of-requires-in-Either-2 t c =
-    let d = sided c.args.table.now c.requires.ready.tidy c.args.it c.requires.looked c.in-Some-sides-of.sides c.in-Some-sides-of.ensures in
-    let e = c.in-Some-type-of-8.ensures in
+pub type_of-requires-in-Either-2 : goal.type_of-requires-in-Either-2
+type_of-requires-in-Either-2 t c =
+    let d = sided c.args.table.now c.requires.ready.tidy c.args.it c.requires.looked c.in-Some-sides_of.sides c.in-Some-sides_of.ensures in
+    let e = c.in-Some-type_of-8.ensures in
     let a = still e.grew c.args.env c.requires.along in
-    let k = still e.grew c.in-Some-sides-of.sides.left d.left in
-    let l = still e.grew c.in-Some-sides-of.sides.right d.right in
+    let k = still e.grew c.in-Some-sides_of.sides.left d.left in
+    let l = still e.grew c.in-Some-sides_of.sides.right d.right in
     (omega arith, (ready_on c.requires.ready e.grew e.fit, (omega arith, omega arith)))
 
-pub returns-in-default-type-of-9 : goal.returns-in-default-type-of-9
-returns-in-default-type-of-9 t c =
-    let d = sided c.args.table.now c.requires.ready.tidy c.args.it c.requires.looked c.in-Some-sides-of.sides c.in-Some-sides-of.ensures in
-    let e = c.in-Some-type-of-8.ensures in
-    let f = c.in-default-type-of-9.ensures in
+pub returns-in_default-type_of-9 : goal.returns-in_default-type_of-9
+returns-in_default-type_of-9 t c =
+    let d = sided c.args.table.now c.requires.ready.tidy c.args.it c.requires.looked c.in-Some-sides_of.sides c.in-Some-sides_of.ensures in
+    let e = c.in-Some-type_of-8.ensures in
+    let f = c.in_default-type_of-9.ensures in
     record { grew = grew_two e.grew f.grew; fit = f.fit; told = either_none_second c.args.depth c.requires.ready c.requires.along c.requires.looked c.in-Some.ensures c.in-Either.is d e.grew e.told f.told }
 
-pub same-type-requires : goal.same-type-requires
-same-type-requires t c =
-    let e = c.in-Some-type-of-8.ensures in
-    let f = c.in-Some-type-of-9.ensures in
-    record { tidy = f.grew.tidy; first = still f.grew c.in-Some-type-of-8.x e.grew.here; second = f.grew.here }
+pub same_type-requires : goal.same_type-requires
+same_type-requires t c =
+    let e = c.in-Some-type_of-8.ensures in
+    let f = c.in-Some-type_of-9.ensures in
+    record { tidy = f.grew.tidy; first = still f.grew c.in-Some-type_of-8.x e.grew.here; second = f.grew.here }
 
-pub returns-in-Some-type-of-9 : goal.returns-in-Some-type-of-9
-returns-in-Some-type-of-9 t c =
-    let d = sided c.args.table.now c.requires.ready.tidy c.args.it c.requires.looked c.in-Some-sides-of.sides c.in-Some-sides-of.ensures in
-    let e = c.in-Some-type-of-8.ensures in
-    let f = c.in-Some-type-of-9.ensures in
-    let s = c.same-type.ensures in
+pub returns-in-Some-type_of-9 : goal.returns-in-Some-type_of-9
+returns-in-Some-type_of-9 t c =
+    let d = sided c.args.table.now c.requires.ready.tidy c.args.it c.requires.looked c.in-Some-sides_of.sides c.in-Some-sides_of.ensures in
+    let e = c.in-Some-type_of-8.ensures in
+    let f = c.in-Some-type_of-9.ensures in
+    let s = c.same_type.ensures in
     record {
       grew = grew_two e.grew (grew_two f.grew s.grew);
       fit = f.fit;

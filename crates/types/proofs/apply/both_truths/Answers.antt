@@ -8,11 +8,11 @@ use Rattle.types.proofs.Operators.{not_yes, not_no, flat_is, flat_none, flat_non
 use Rattle.types.proofs.Records.{dot_grew, dot_says, dot_none, field_says, without_says, without_none, only_says, only_none, join_says, join_none, join_none_second}
 use Rattle.types.proofs.apply.both_truths.Goals as goal
 
-pub returns-then-not-is-truth : goal.returns-then-not-is-truth
-returns-then-not-is-truth c = record { grew = stay None c.requires.tidy tt; says = λ ns rk. stays 0 0 None _ (and_first (type_at ns (look c.args.t.now) c.args.x) (type_at ns (look c.args.t.now) c.args.y) (c.if-not-is-truth.ensures ns)) }
+pub returns-then-not-is_truth : goal.returns-then-not-is_truth
+returns-then-not-is_truth c = record { grew = stay None c.requires.tidy tt; says = λ ns rk. stays 0 0 None _ (and_first (type_at ns (look c.args.t.now) c.args.x) (type_at ns (look c.args.t.now) c.args.y) (c.if-not-is_truth.ensures ns)) }
 
-pub returns-then-is-truth : goal.returns-then-is-truth
-returns-then-is-truth c = record { grew = stay (Some c.args.x) c.requires.tidy c.requires.first; says = λ ns rk. stays 0 0 (Some c.args.x) _ (and_yes (type_at ns (look c.args.t.now) c.args.x) (type_at ns (look c.args.t.now) c.args.y) (c.if-not-is-truth.ensures ns) (c.if-is-truth.ensures ns)) }
+pub returns-then-is_truth : goal.returns-then-is_truth
+returns-then-is_truth c = record { grew = stay (Some c.args.x) c.requires.tidy c.requires.first; says = λ ns rk. stays 0 0 (Some c.args.x) _ (and_yes (type_at ns (look c.args.t.now) c.args.x) (type_at ns (look c.args.t.now) c.args.y) (c.if-not-is_truth.ensures ns) (c.if-is_truth.ensures ns)) }
 
-pub returns-else-is-truth : goal.returns-else-is-truth
-returns-else-is-truth c = record { grew = stay None c.requires.tidy tt; says = λ ns rk. stays 0 0 None _ (and_second (type_at ns (look c.args.t.now) c.args.x) (type_at ns (look c.args.t.now) c.args.y) (c.if-is-truth.ensures ns)) }
+pub returns-else-is_truth : goal.returns-else-is_truth
+returns-else-is_truth c = record { grew = stay None c.requires.tidy tt; says = λ ns rk. stays 0 0 None _ (and_second (type_at ns (look c.args.t.now) c.args.x) (type_at ns (look c.args.t.now) c.args.y) (c.if-is_truth.ensures ns)) }

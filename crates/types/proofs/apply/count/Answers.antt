@@ -8,8 +8,8 @@ use Rattle.types.proofs.Operators.{not_yes, not_no, flat_is, flat_none, flat_non
 use Rattle.types.proofs.Records.{dot_grew, dot_says, dot_none, field_says, without_says, without_none, only_says, only_none, join_says, join_none, join_none_second}
 use Rattle.types.proofs.apply.count.Goals as goal
 
-pub returns-in-default : goal.returns-in-default
-returns-in-default c = record { grew = stay None c.requires.tidy tt; says = λ ns rk. stays_if 1 0 None _ (λ o. count_none (type_at ns (look c.args.t.now) c.args.x) (seen (c.in-default.ensures.says ns rk) o)) }
+pub returns-in_default : goal.returns-in_default
+returns-in_default c = record { grew = stay None c.requires.tidy tt; says = λ ns rk. stays_if 1 0 None _ (λ o. count_none (type_at ns (look c.args.t.now) c.args.x) (seen (c.in_default.ensures.says ns rk) o)) }
 
 pub make-requires : goal.make-requires
 unfolding Below

@@ -8,8 +8,8 @@ use Rattle.types.proofs.Operators.{not_yes, not_no, flat_is, flat_none, flat_non
 use Rattle.types.proofs.Records.{dot_grew, dot_says, dot_none, field_says, without_says, without_none, only_says, only_none, join_says, join_none, join_none_second}
 use Rattle.types.proofs.apply.distinct.Goals as goal
 
-pub returns-in-default : goal.returns-in-default
-returns-in-default c = record { grew = stay None c.requires.tidy tt; says = λ ns rk. stays_if 0 0 None _ (λ o. distinct_none (type_at ns (look c.args.t.now) c.args.x) (seen (c.in-default.ensures.says ns rk) o)) }
+pub returns-in_default : goal.returns-in_default
+returns-in_default c = record { grew = stay None c.requires.tidy tt; says = λ ns rk. stays_if 0 0 None _ (λ o. distinct_none (type_at ns (look c.args.t.now) c.args.x) (seen (c.in_default.ensures.says ns rk) o)) }
 
 pub returns : goal.returns
 returns c = record { grew = stay (Some c.args.x) c.requires.tidy c.requires.within; says = λ ns rk. stays_if 0 0 (Some c.args.x) _ (λ o. distinct_is (type_at ns (look c.args.t.now) c.args.x) _ (seen (c.in-Some.ensures.says ns rk) o)) }

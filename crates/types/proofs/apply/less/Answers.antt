@@ -8,16 +8,16 @@ use Rattle.types.proofs.Operators.{not_yes, not_no, flat_is, flat_none, flat_non
 use Rattle.types.proofs.Records.{dot_grew, dot_says, dot_none, field_says, without_says, without_none, only_says, only_none, join_says, join_none, join_none_second}
 use Rattle.types.proofs.apply.less.Goals as goal
 
-pub returns-then-not-is-num : goal.returns-then-not-is-num
-returns-then-not-is-num c = record { grew = stay None c.requires.tidy tt; says = λ ns rk. stays 1 0 None _ (less_first (type_at ns (look c.args.t.now) c.args.x) (type_at ns (look c.args.t.now) c.args.y) (c.if-not-is-num.ensures ns)) }
+pub returns-then-not-is_num : goal.returns-then-not-is_num
+returns-then-not-is_num c = record { grew = stay None c.requires.tidy tt; says = λ ns rk. stays 1 0 None _ (less_first (type_at ns (look c.args.t.now) c.args.x) (type_at ns (look c.args.t.now) c.args.y) (c.if-not-is_num.ensures ns)) }
 
 pub make-requires : goal.make-requires
 unfolding Below
 make-requires c = record { tidy = c.requires.tidy; plain = tt; parts = tt }
 
-pub returns-then-is-num : goal.returns-then-is-num
+pub returns-then-is_num : goal.returns-then-is_num
 unfolding meaning
-returns-then-is-num c = record { grew = c.make.ensures.grew; says = λ ns rk. meant_as (c.make.ensures.says ns rk) _ (less_yes (type_at ns (look c.args.t.now) c.args.x) (type_at ns (look c.args.t.now) c.args.y) (c.if-not-is-num.ensures ns) (c.if-is-num.ensures ns)) }
+returns-then-is_num c = record { grew = c.make.ensures.grew; says = λ ns rk. meant_as (c.make.ensures.says ns rk) _ (less_yes (type_at ns (look c.args.t.now) c.args.x) (type_at ns (look c.args.t.now) c.args.y) (c.if-not-is_num.ensures ns) (c.if-is_num.ensures ns)) }
 
-pub returns-else-is-num : goal.returns-else-is-num
-returns-else-is-num c = record { grew = stay None c.requires.tidy tt; says = λ ns rk. stays 1 0 None _ (less_second (type_at ns (look c.args.t.now) c.args.x) (type_at ns (look c.args.t.now) c.args.y) (c.if-is-num.ensures ns)) }
+pub returns-else-is_num : goal.returns-else-is_num
+returns-else-is_num c = record { grew = stay None c.requires.tidy tt; says = λ ns rk. stays 1 0 None _ (less_second (type_at ns (look c.args.t.now) c.args.x) (type_at ns (look c.args.t.now) c.args.y) (c.if-is_num.ensures ns)) }

@@ -8,8 +8,8 @@ use Rattle.types.proofs.Operators.{not_yes, not_no, flat_is, flat_none, flat_non
 use Rattle.types.proofs.Records.{dot_grew, dot_says, dot_none, field_says, without_says, without_none, only_says, only_none, join_says, join_none, join_none_second}
 use Rattle.types.proofs.apply.not.Goals as goal
 
-pub returns-then-is-truth : goal.returns-then-is-truth
-returns-then-is-truth c = record { grew = stay (Some c.args.x) c.requires.tidy c.requires.within; says = λ ns rk. stays 0 0 (Some c.args.x) _ (not_yes (type_at ns (look c.args.t.now) c.args.x) (c.if-is-truth.ensures ns)) }
+pub returns-then-is_truth : goal.returns-then-is_truth
+returns-then-is_truth c = record { grew = stay (Some c.args.x) c.requires.tidy c.requires.within; says = λ ns rk. stays 0 0 (Some c.args.x) _ (not_yes (type_at ns (look c.args.t.now) c.args.x) (c.if-is_truth.ensures ns)) }
 
-pub returns-else-is-truth : goal.returns-else-is-truth
-returns-else-is-truth c = record { grew = stay None c.requires.tidy tt; says = λ ns rk. stays 0 0 None _ (not_no (type_at ns (look c.args.t.now) c.args.x) (c.if-is-truth.ensures ns)) }
+pub returns-else-is_truth : goal.returns-else-is_truth
+returns-else-is_truth c = record { grew = stay None c.requires.tidy tt; says = λ ns rk. stays 0 0 None _ (not_no (type_at ns (look c.args.t.now) c.args.x) (c.if-is_truth.ensures ns)) }

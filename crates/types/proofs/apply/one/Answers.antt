@@ -16,7 +16,7 @@ pub returns-in-Not : goal.returns-in-Not
 returns-in-Not c = record { grew = c.not.ensures.grew; says = λ p ns rk. meant_more (meant_as (c.not.ensures.says ns rk) _ (ap (λ (z : Unary). type1 (op_1 z) (type_at ns (look c.args.t.now) c.args.x)) c.in-Not.is)) 1 c.args.t.now.names (omega arith) (omega arith) }
 
 pub returns-in-InBag : goal.returns-in-InBag
-returns-in-InBag c = record { grew = c.in-bag.ensures.grew; says = λ p ns rk. meant_more (meant_as (c.in-bag.ensures.says ns rk) _ (ap (λ (z : Unary). type1 (op_1 z) (type_at ns (look c.args.t.now) c.args.x)) c.in-InBag.is)) 1 c.args.t.now.names (omega arith) (omega arith) }
+returns-in-InBag c = record { grew = c.in_bag.ensures.grew; says = λ p ns rk. meant_more (meant_as (c.in_bag.ensures.says ns rk) _ (ap (λ (z : Unary). type1 (op_1 z) (type_at ns (look c.args.t.now) c.args.x)) c.in-InBag.is)) 1 c.args.t.now.names (omega arith) (omega arith) }
 
 pub returns-in-Flat : goal.returns-in-Flat
 returns-in-Flat c = record { grew = c.flat.ensures.grew; says = λ p ns rk. meant_more (meant_as (c.flat.ensures.says ns rk) _ (ap (λ (z : Unary). type1 (op_1 z) (type_at ns (look c.args.t.now) c.args.x)) c.in-Flat.is)) 1 c.args.t.now.names (omega arith) (omega arith) }

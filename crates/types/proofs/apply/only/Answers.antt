@@ -8,8 +8,8 @@ use Rattle.types.proofs.Operators.{not_yes, not_no, flat_is, flat_none, flat_non
 use Rattle.types.proofs.Records.{dot_grew, dot_says, dot_none, field_says, without_says, without_none, only_says, only_none, join_says, join_none, join_none_second}
 use Rattle.types.proofs.apply.only.Goals as goal
 
-pub returns-in-default : goal.returns-in-default
-returns-in-default c = record { grew = stay None c.requires.tidy tt; says = λ ns rk l. only_none c.args.t.now c.requires.tidy c.args.names.now c.args.x c.requires.within c.in-default.ensures ns }
+pub returns-in_default : goal.returns-in_default
+returns-in_default c = record { grew = stay None c.requires.tidy tt; says = λ ns rk l. only_none c.args.t.now c.requires.tidy c.args.names.now c.args.x c.requires.within c.in_default.ensures ns }
 
 pub returns-then-not-spare : goal.returns-then-not-spare
 returns-then-not-spare c = record { grew = stay None c.requires.tidy tt; says = λ ns rk l. no_room 1 c.args.t.now.names _ (λ o. c.if-not-spare.ensures o) }

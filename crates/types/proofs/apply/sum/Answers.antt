@@ -8,11 +8,11 @@ use Rattle.types.proofs.Operators.{not_yes, not_no, flat_is, flat_none, flat_non
 use Rattle.types.proofs.Records.{dot_grew, dot_says, dot_none, field_says, without_says, without_none, only_says, only_none, join_says, join_none, join_none_second}
 use Rattle.types.proofs.apply.sum.Goals as goal
 
-pub returns-in-default : goal.returns-in-default
-returns-in-default c = record { grew = stay None c.requires.tidy tt; says = λ ns rk. stays_if 0 0 None _ (λ o. sum_none (type_at ns (look c.args.t.now) c.args.x) (seen (c.in-default.ensures.says ns rk) o)) }
+pub returns-in_default : goal.returns-in_default
+returns-in_default c = record { grew = stay None c.requires.tidy tt; says = λ ns rk. stays_if 0 0 None _ (λ o. sum_none (type_at ns (look c.args.t.now) c.args.x) (seen (c.in_default.ensures.says ns rk) o)) }
 
-pub returns-then-is-num : goal.returns-then-is-num
-returns-then-is-num c = record { grew = stay (Some c.in-Some.u) c.requires.tidy c.in-Some.ensures.grew.here; says = λ ns rk. stays_if 0 0 (Some c.in-Some.u) _ (λ o. sum_yes (type_at ns (look c.args.t.now) c.args.x) _ (seen (c.in-Some.ensures.says ns rk) o) (c.if-is-num.ensures ns)) }
+pub returns-then-is_num : goal.returns-then-is_num
+returns-then-is_num c = record { grew = stay (Some c.in-Some.u) c.requires.tidy c.in-Some.ensures.grew.here; says = λ ns rk. stays_if 0 0 (Some c.in-Some.u) _ (λ o. sum_yes (type_at ns (look c.args.t.now) c.args.x) _ (seen (c.in-Some.ensures.says ns rk) o) (c.if-is_num.ensures ns)) }
 
-pub returns-else-is-num : goal.returns-else-is-num
-returns-else-is-num c = record { grew = stay None c.requires.tidy tt; says = λ ns rk. stays_if 0 0 None _ (λ o. sum_no (type_at ns (look c.args.t.now) c.args.x) _ (seen (c.in-Some.ensures.says ns rk) o) (c.if-is-num.ensures ns)) }
+pub returns-else-is_num : goal.returns-else-is_num
+returns-else-is_num c = record { grew = stay None c.requires.tidy tt; says = λ ns rk. stays_if 0 0 None _ (λ o. sum_no (type_at ns (look c.args.t.now) c.args.x) _ (seen (c.in-Some.ensures.says ns rk) o) (c.if-is_num.ensures ns)) }

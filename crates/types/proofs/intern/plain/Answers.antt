@@ -7,8 +7,8 @@ returns-in-Some c = record { kept = record { names = refl; entries = refl; field
 
 pub returns-in-None : goal.returns-in-None
 returns-in-None c = record {
-  kept = record { names = refl; entries = c.push-reserved.ensures.capacity; fields = refl };
-  made = made_push _ _ _ _ _ _ c.requires.sound (lies_more 0 _ c.args.e (omega arith) c.requires.plain) c.requires.parts c.in-None.ensures c.push-reserved.ensures.items (omega arith);
+  kept = record { names = refl; entries = c.push_reserved.ensures.capacity; fields = refl };
+  made = made_push _ _ _ _ _ _ c.requires.sound (lies_more 0 _ c.args.e (omega arith) c.requires.plain) c.requires.parts c.in-None.ensures c.push_reserved.ensures.items (omega arith);
 }
 
 pub find-requires : goal.find-requires

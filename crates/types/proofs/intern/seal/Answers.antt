@@ -13,6 +13,6 @@ returns-in-Some c = record {
 
 pub returns-in-None : goal.returns-in-None
 returns-in-None c = record {
-  kept = record { names = refl; entries = c.push-reserved.ensures.capacity; fields = refl };
-  made = sealed_push _ _ _ _ c.args.start _ (c.len.result - c.args.start) c.requires.start c.requires.sound c.requires.parts (omega arith) c.in-None.ensures c.push-reserved.ensures.items (omega arith);
+  kept = record { names = refl; entries = c.push_reserved.ensures.capacity; fields = refl };
+  made = sealed_push _ _ _ _ c.args.start _ (c.len.result - c.args.start) c.requires.start c.requires.sound c.requires.parts (omega arith) c.in-None.ensures c.push_reserved.ensures.items (omega arith);
 }

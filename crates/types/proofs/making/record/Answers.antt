@@ -16,11 +16,11 @@ returns-then-not-spare c = record { grew = stay None c.requires.tidy tt; says = 
 pub loop-i-init : goal.loop-i-init
 loop-i-init c = (refl, refl, refl, refl)
 
-pub push-reserved-requires : goal.push-reserved-requires
-push-reserved-requires c = let r = zip_room _ _ c.args.ranks.now c.args.of.now c.loop-i.i c.loop-i-test.true c.requires.many c.loop-i.invariant.0 in let s = c.if-not-spare.ensures in let e = c.loop-i.invariant.3 in omega (arith, s.some, s.fields)
+pub push_reserved-requires : goal.push_reserved-requires
+push_reserved-requires c = let r = zip_room _ _ c.args.ranks.now c.args.of.now c.loop-i.i c.loop-i-test.true c.requires.many c.loop-i.invariant.0 in let s = c.if-not-spare.ensures in let e = c.loop-i.invariant.3 in omega (arith, s.some, s.fields)
 
 pub loop-i-preserved : goal.loop-i-preserved
-loop-i-preserved c = (zip_on _ _ _ c.args.ranks.now c.args.of.now c.loop-i.i _ c.loop-i-test.true c.requires.many c.loop-i.invariant.0 refl c.push-reserved.ensures.items, c.loop-i.invariant.1, c.loop-i.invariant.2, c.push-reserved.ensures.capacity ∙ c.loop-i.invariant.3)
+loop-i-preserved c = (zip_on _ _ _ c.args.ranks.now c.args.of.now c.loop-i.i _ c.loop-i-test.true c.requires.many c.loop-i.invariant.0 refl c.push_reserved.ensures.items, c.loop-i.invariant.1, c.loop-i.invariant.2, c.push_reserved.ensures.capacity ∙ c.loop-i.invariant.3)
 
 pub seal-requires : goal.seal-requires
 seal-requires c =

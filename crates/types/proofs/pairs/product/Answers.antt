@@ -11,11 +11,11 @@ use Rattle.types.proofs.Operators.{apart_no, alike_yes}
 use Rattle.types.proofs.Products.{paired_none, paired_some, product_none, product_none_second, product_some, matched_none, matched_none_second, matched_no_field, matched_no_field_second, matched_apart, matched_some}
 use Rattle.types.proofs.pairs.product.Goals as goal
 
-pub returns-in-default : goal.returns-in-default
-returns-in-default c = record { grew = stay None c.requires.tidy tt; says = λ ns rk. product_none (type_at ns (look c.args.t.now) c.args.x) (type_at ns (look c.args.t.now) c.args.y) (c.in-default.ensures.says ns rk) }
+pub returns-in_default : goal.returns-in_default
+returns-in_default c = record { grew = stay None c.requires.tidy tt; says = λ ns rk. product_none (type_at ns (look c.args.t.now) c.args.x) (type_at ns (look c.args.t.now) c.args.y) (c.in_default.ensures.says ns rk) }
 
-pub returns-in-default-elem-of : goal.returns-in-default-elem-of
-returns-in-default-elem-of c = record { grew = stay None c.requires.tidy tt; says = λ ns rk. product_none_second (type_at ns (look c.args.t.now) c.args.x) (type_at ns (look c.args.t.now) c.args.y) (c.in-default-elem-of.ensures.says ns rk) }
+pub returns-in_default-elem_of : goal.returns-in_default-elem_of
+returns-in_default-elem_of c = record { grew = stay None c.requires.tidy tt; says = λ ns rk. product_none_second (type_at ns (look c.args.t.now) c.args.x) (type_at ns (look c.args.t.now) c.args.y) (c.in_default-elem_of.ensures.says ns rk) }
 
 pub returns : goal.returns
-returns c = record { grew = c.paired.ensures.grew; says = λ ns rk. product_some (type_at ns (look c.args.t.now) c.args.x) (type_at ns (look c.args.t.now) c.args.y) (c.in-Some.ensures.says ns rk) (c.in-Some-elem-of.ensures.says ns rk) (c.paired.ensures.says ns rk) }
+returns c = record { grew = c.paired.ensures.grew; says = λ ns rk. product_some (type_at ns (look c.args.t.now) c.args.x) (type_at ns (look c.args.t.now) c.args.y) (c.in-Some.ensures.says ns rk) (c.in-Some-elem_of.ensures.says ns rk) (c.paired.ensures.says ns rk) }

@@ -5,5 +5,5 @@ use Rattle.types.proofs.part.elem_of.Goals as goal
 
 pub returns : goal.returns
 returns c =
-    let e = c.bag-part.ensures ∙ ap bag_part c.entry-at.ensures in
+    let e = c.bag_part.ensures ∙ ap bag_part c.entry_at.ensures in
     record { grew = elem_grew c.args.t.now c.requires.tidy c.args.x c.requires.within _ e; says = elem_says c.args.t.now c.requires.tidy c.args.x c.requires.within _ e }

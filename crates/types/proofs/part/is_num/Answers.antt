@@ -4,4 +4,4 @@ use Rattle.types.proofs.Meanings.{num_says}
 use Rattle.types.proofs.part.is_num.Goals as goal
 
 pub returns : goal.returns
-returns c = num_says c.args.t.now c.requires.tidy c.args.x c.requires.within _ (c.num-part.ensures ∙ ap num_part c.entry-at.ensures)
+returns c = num_says c.args.t.now c.requires.tidy c.args.x c.requires.within _ (c.num_part.ensures ∙ ap num_part c.entry_at.ensures)

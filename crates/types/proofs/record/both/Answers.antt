@@ -19,31 +19,31 @@ next-x-requires c =
       rising = rising_as _ _ _ _ _ c.loop-n.invariant.1 k (merge_rising g);
     }
 
-pub push-reserved-requires : goal.push-reserved-requires
-push-reserved-requires c = let r = merge_room c.loop-n.invariant.0 c.next-x.result c.next-x.ensures in let e = c.loop-n.invariant.3 in let w = c.requires.spare in omega arith
+pub push_reserved-requires : goal.push_reserved-requires
+push_reserved-requires c = let r = merge_room c.loop-n.invariant.0 c.next-x.result c.next-x.ensures in let e = c.loop-n.invariant.3 in let w = c.requires.spare in omega arith
 
-pub overflow-add-a : goal.overflow-add-a
-overflow-add-a c =
+pub overflow_add-a : goal.overflow_add-a
+overflow_add-a c =
     let g = c.loop-n.invariant.0 in
     let k = merge_counts g c.next-x.result c.next-x.ensures in
     let f = merge_first g in
     omega (arith, k.0, f.0)
 
-pub overflow-sub-n : goal.overflow-sub-n
-overflow-sub-n c = (merge_counts c.loop-n.invariant.0 c.next-x.result c.next-x.ensures).0
+pub overflow_sub-n : goal.overflow_sub-n
+overflow_sub-n c = (merge_counts c.loop-n.invariant.0 c.next-x.result c.next-x.ensures).0
 
-pub overflow-add-b : goal.overflow-add-b
-overflow-add-b c =
+pub overflow_add-b : goal.overflow_add-b
+overflow_add-b c =
     let g = c.loop-n.invariant.0 in
     let k = merge_counts g c.next-x.result c.next-x.ensures in
     let f = merge_first g in
     omega (arith, k.1, f.1)
 
-pub overflow-sub-m : goal.overflow-sub-m
-overflow-sub-m c = (merge_counts c.loop-n.invariant.0 c.next-x.result c.next-x.ensures).1
+pub overflow_sub-m : goal.overflow_sub-m
+overflow_sub-m c = (merge_counts c.loop-n.invariant.0 c.next-x.result c.next-x.ensures).1
 
 pub loop-n-preserved : goal.loop-n-preserved
-loop-n-preserved c = (merge_on c.loop-n.invariant.0 c.next-x.result c.next-x.ensures _ c.push-reserved.ensures.items, c.loop-n.invariant.1, c.loop-n.invariant.2, c.push-reserved.ensures.capacity ∙ c.loop-n.invariant.3)
+loop-n-preserved c = (merge_on c.loop-n.invariant.0 c.next-x.result c.next-x.ensures _ c.push_reserved.ensures.items, c.loop-n.invariant.1, c.loop-n.invariant.2, c.push_reserved.ensures.capacity ∙ c.loop-n.invariant.3)
 
 pub seal-requires : goal.seal-requires
 seal-requires c =

@@ -8,12 +8,12 @@ use Rattle.types.proofs.record.kept.Goals.{then-stays, else-stays}
 pub loop-i-init : goal.loop-i-init
 loop-i-init c = (keep_begin _ _ _ c.args.a c.args.n _ _ c.requires.rises, refl, refl, refl)
 
-pub field-at-f-requires : goal.field-at-f-requires
-field-at-f-requires c = keep_lies _ _ _ _ _ _ _ _ _ c.requires.lies c.loop-i.invariant.0 c.loop-i-test.true
+pub field_at-f-requires : goal.field_at-f-requires
+field_at-f-requires c = keep_lies _ _ _ _ _ _ _ _ _ c.requires.lies c.loop-i.invariant.0 c.loop-i-test.true
 
-pub push-reserved-requires : goal.push-reserved-requires
-push-reserved-requires c =
-    let r = keep_room _ _ _ _ _ _ _ _ _ c.requires.lies c.loop-i.invariant.0 c.loop-i-test.true _ c.field-at-f.ensures (sym c.if-stays.ensures) in
+pub push_reserved-requires : goal.push_reserved-requires
+push_reserved-requires c =
+    let r = keep_room _ _ _ _ _ _ _ _ _ c.requires.lies c.loop-i.invariant.0 c.loop-i-test.true _ c.field_at-f.ensures (sym c.if-stays.ensures) in
     let s = c.requires.spare in
     let e = c.loop-i.invariant.3 in
     omega arith
@@ -28,13 +28,13 @@ pub loop-i-preserved : goal.loop-i-preserved
 loop-i-preserved c =
     elim c.if-stays.branch [
       | then-stays w ↦ subst (goes c) (sym w.t-is) (
-        keep_on _ _ _ _ _ _ _ _ _ c.requires.lies c.loop-i.invariant.0 c.loop-i-test.true _ c.field-at-f.ensures _ w.push-reserved.ensures.items (sym w.if-stays.ensures),
+        keep_on _ _ _ _ _ _ _ _ _ c.requires.lies c.loop-i.invariant.0 c.loop-i-test.true _ c.field_at-f.ensures _ w.push_reserved.ensures.items (sym w.if-stays.ensures),
         c.loop-i.invariant.1,
         c.loop-i.invariant.2,
-        w.push-reserved.ensures.capacity ∙ c.loop-i.invariant.3,
+        w.push_reserved.ensures.capacity ∙ c.loop-i.invariant.3,
       )
       | else-stays w ↦ subst (goes c) (sym w.t-is) (
-        keep_off _ _ _ _ _ _ _ _ _ c.requires.lies c.loop-i.invariant.0 c.loop-i-test.true _ c.field-at-f.ensures (sym w.if-stays.ensures),
+        keep_off _ _ _ _ _ _ _ _ _ c.requires.lies c.loop-i.invariant.0 c.loop-i-test.true _ c.field_at-f.ensures (sym w.if-stays.ensures),
         c.loop-i.invariant.1,
         c.loop-i.invariant.2,
         c.loop-i.invariant.3,

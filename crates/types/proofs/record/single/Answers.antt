@@ -4,7 +4,7 @@ use Rattle.types.proofs.record.single.Goals as goal
 
 pub seal-requires : goal.seal-requires
 seal-requires c =
-    let i = c.push-reserved.ensures.items in
+    let i = c.push_reserved.ensures.items in
     let l : c.len-start.result ≡ length (vec_items c.args.t.now.fields) = omega arith in
     record {
       start = top_start _ _ _ c.len-start.result i l;
@@ -20,6 +20,6 @@ returns c =
     let k = c.seal.ensures.kept in
     let l : c.len-start.result ≡ length (vec_items c.args.t.now.fields) = omega arith in
     record {
-      kept = record { names = k.names; entries = k.entries; fields = k.fields ∙ c.push-reserved.ensures.capacity };
-      made = top_made _ _ _ _ _ c.len-start.result 1 _ _ _ c.push-reserved.ensures.items l (omega arith) c.seal.ensures.made;
+      kept = record { names = k.names; entries = k.entries; fields = k.fields ∙ c.push_reserved.ensures.capacity };
+      made = top_made _ _ _ _ _ c.len-start.result 1 _ _ _ c.push_reserved.ensures.items l (omega arith) c.seal.ensures.made;
     }

@@ -63,7 +63,7 @@ returns-else-stack-top-lt2 c = record { grew = c.make-in-Either.ensures.grew; ca
 
 pub returns-in-Record : goal.returns-in-Record
 returns-in-Record c = record {
-  grew = c.made-record.ensures.grew;
-  cap = c.made-record.ensures.cap;
-  says = node_as c.args.bytes.now c.args.names.now c.args.table.now _ c.args.stack.now c.args.top c.args.at c.args.node _ _ c.in-Record.is c.made-record.ensures.says;
+  grew = c.made_record.ensures.grew;
+  cap = c.made_record.ensures.cap;
+  says = node_as c.args.bytes.now c.args.names.now c.args.table.now _ c.args.stack.now c.args.top c.args.at c.args.node _ _ c.in-Record.is c.made_record.ensures.says;
 }

@@ -5,17 +5,17 @@ use Rattle.typing.proofs.load.note_heads.Goals as goal
 pub loop-pending-init : goal.loop-pending-init
 loop-pending-init c = (noting_begin _ _ _ _ c.requires.within (let e = c.requires.none in omega arith), c.requires.cap)
 
-pub returns-in-default : goal.returns-in-default
-returns-in-default c = record { cap = c.loop-pending.invariant.1; headed = noting_stuck _ _ _ _ c.loop-pending.pending c.loop-pending.end (omega arith) c.loop-pending.invariant.0 _ c.in-default.ensures }
+pub returns-in_default : goal.returns-in_default
+returns-in_default c = record { cap = c.loop-pending.invariant.1; headed = noting_stuck _ _ _ _ c.loop-pending.pending c.loop-pending.end (omega arith) c.loop-pending.invariant.0 _ c.in_default.ensures }
 
 pub returns-then-len-ge8200 : goal.returns-then-len-ge8200
 returns-then-len-ge8200 c = record { cap = c.loop-pending.invariant.1; headed = noting_full _ _ _ _ c.loop-pending.pending c.loop-pending.end (omega arith) c.loop-pending.invariant.0 (omega arith) }
 
-pub push-reserved-requires : goal.push-reserved-requires
-push-reserved-requires c = let h = c.loop-pending.invariant.1 in omega arith
+pub push_reserved-requires : goal.push_reserved-requires
+push_reserved-requires c = let h = c.loop-pending.invariant.1 in omega arith
 
 pub loop-pending-preserved : goal.loop-pending-preserved
-loop-pending-preserved c = (noting_on _ _ _ _ c.loop-pending.pending c.loop-pending.end (omega arith) c.loop-pending.invariant.0 c.in-Ok.o.head c.in-Ok.o.parts c.in-Ok.o.length c.in-Ok.ensures _ _ c.push-reserved.ensures.items refl, let h = c.loop-pending.invariant.1 in let k = c.push-reserved.ensures.capacity in omega arith)
+loop-pending-preserved c = (noting_on _ _ _ _ c.loop-pending.pending c.loop-pending.end (omega arith) c.loop-pending.invariant.0 c.in-Ok.o.head c.in-Ok.o.parts c.in-Ok.o.length c.in-Ok.ensures _ _ c.push_reserved.ensures.items refl, let h = c.loop-pending.invariant.1 in let k = c.push_reserved.ensures.capacity in omega arith)
 
 pub loop-pending-smaller : goal.loop-pending-smaller
 loop-pending-smaller c = let r = noting_lies _ _ _ _ c.loop-pending.pending c.loop-pending.end (omega arith) c.loop-pending.invariant.0 c.in-Ok.o.head c.in-Ok.o.parts c.in-Ok.o.length c.in-Ok.ensures in omega (arith, r.0, r.1)

@@ -1,5 +1,5 @@
 use Rattle.std.proofs.lemmas.Result.{err_from_is_err_and}
 use Rattle.typing.proofs.memory.new.Goals as goal
 
-pub returns-in-err-schema : goal.returns-in-err-schema
-returns-in-err-schema c = let p = err_from_is_err_and c.from-residual-in-err-schema.result c.from-residual-in-err-schema.ensures.1 in rw p.1 tt
+pub returns-in_err-schema : goal.returns-in_err-schema
+returns-in_err-schema c = let p = err_from_is_err_and c.from_residual-in_err-schema.result c.from_residual-in_err-schema.ensures.1 in rw p.1 tt

@@ -7,28 +7,28 @@ use Rattle.typing.proofs.ranked.ranks_of.Goals as goal
 pub loop-i-init : goal.loop-i-init
 loop-i-init c = (ranking_begin _ _ _ _ _ c.requires.within c.truncate.ensures.items, let h = c.requires.cap in let k = c.truncate.ensures.capacity in omega arith)
 
-pub returns-in-default : goal.returns-in-default
-returns-in-default c = record { cap = c.loop-i.invariant.1; read = ranking_stuck _ _ _ _ _ c.loop-i.i c.loop-i.pos c.loop-i-test.true c.loop-i.invariant.0 _ c.in-default.ensures }
+pub returns-in_default : goal.returns-in_default
+returns-in_default c = record { cap = c.loop-i.invariant.1; read = ranking_stuck _ _ _ _ _ c.loop-i.i c.loop-i.pos c.loop-i-test.true c.loop-i.invariant.0 _ c.in_default.ensures }
 
-pub overflow-add-start : goal.overflow-add-start
-overflow-add-start c = let h = ranking_lies _ _ _ _ _ c.loop-i.i c.loop-i.pos c.loop-i-test.true c.loop-i.invariant.0 c.in-Ok.n c.in-Ok.ensures in omega arith
+pub overflow_add-start : goal.overflow_add-start
+overflow_add-start c = let h = ranking_lies _ _ _ _ _ c.loop-i.i c.loop-i.pos c.loop-i-test.true c.loop-i.invariant.0 c.in-Ok.n c.in-Ok.ensures in omega arith
 
-pub overflow-add-end : goal.overflow-add-end
-overflow-add-end c = let h = ranking_lies _ _ _ _ _ c.loop-i.i c.loop-i.pos c.loop-i-test.true c.loop-i.invariant.0 c.in-Ok.n c.in-Ok.ensures in omega arith
+pub overflow_add-end : goal.overflow_add-end
+overflow_add-end c = let h = ranking_lies _ _ _ _ _ c.loop-i.i c.loop-i.pos c.loop-i-test.true c.loop-i.invariant.0 c.in-Ok.n c.in-Ok.ensures in omega arith
 
-pub returns-in-default-rank : goal.returns-in-default-rank
-returns-in-default-rank c = record { cap = c.loop-i.invariant.1; read = ranking_absent _ _ _ _ _ c.loop-i.i c.loop-i.pos c.loop-i-test.true c.loop-i.invariant.0 c.in-Ok.n c.in-Ok.ensures (λ m. c.in-default-rank.ensures (subst (λ z. In (names_of c.args.bytes.now c.args.names.now) z) (sym (part_same c.args.bytes.now (c.loop-i.pos + 4) c.in-Ok.n)) m)) }
+pub returns-in_default-rank : goal.returns-in_default-rank
+returns-in_default-rank c = record { cap = c.loop-i.invariant.1; read = ranking_absent _ _ _ _ _ c.loop-i.i c.loop-i.pos c.loop-i-test.true c.loop-i.invariant.0 c.in-Ok.n c.in-Ok.ensures (λ m. c.in_default-rank.ensures (subst (λ z. In (names_of c.args.bytes.now c.args.names.now) z) (sym (part_same c.args.bytes.now (c.loop-i.pos + 4) c.in-Ok.n)) m)) }
 
 pub returns-then-len-ge8200 : goal.returns-then-len-ge8200
 returns-then-len-ge8200 c = record { cap = c.loop-i.invariant.1; read = ranking_full _ _ _ _ _ c.loop-i.i c.loop-i.pos c.loop-i-test.true c.loop-i.invariant.0 (omega arith) }
 
-pub push-reserved-requires : goal.push-reserved-requires
-push-reserved-requires c = let h = c.loop-i.invariant.1 in omega arith
+pub push_reserved-requires : goal.push_reserved-requires
+push_reserved-requires c = let h = c.loop-i.invariant.1 in omega arith
 
 pub loop-i-preserved : goal.loop-i-preserved
 loop-i-preserved c = (
-  ranking_on _ _ _ _ _ c.loop-i.i c.loop-i.pos c.loop-i-test.true c.loop-i.invariant.0 c.in-Ok.n c.in-Ok.ensures c.in-Some.k c.in-Some.ensures.0 (c.in-Some.ensures.1 ∙ part_same c.args.bytes.now (c.loop-i.pos + 4) c.in-Ok.n) _ c.push-reserved.ensures.items _ (omega arith),
-  let h = c.loop-i.invariant.1 in let k = c.push-reserved.ensures.capacity in omega arith,
+  ranking_on _ _ _ _ _ c.loop-i.i c.loop-i.pos c.loop-i-test.true c.loop-i.invariant.0 c.in-Ok.n c.in-Ok.ensures c.in-Some.k c.in-Some.ensures.0 (c.in-Some.ensures.1 ∙ part_same c.args.bytes.now (c.loop-i.pos + 4) c.in-Ok.n) _ c.push_reserved.ensures.items _ (omega arith),
+  let h = c.loop-i.invariant.1 in let k = c.push_reserved.ensures.capacity in omega arith,
 )
 
 pub returns : goal.returns

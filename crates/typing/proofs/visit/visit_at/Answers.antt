@@ -8,8 +8,8 @@ returns-then-base-bytes c = seen_off c.args.bytes.now c.args.guide.now c.args.ba
 pub returns-then-bytes-base : goal.returns-then-bytes-base
 returns-then-bytes-base c = seen_off c.args.bytes.now c.args.guide.now c.args.base c.args.pos (λ h. let g = c.if-bytes-base.true in let f = c.if-base-bytes.false in omega arith)
 
-pub returns-in-default : goal.returns-in-default
-returns-in-default c = seen_none c.args.bytes.now c.args.guide.now c.args.base c.args.pos _ c.mark-at-last.ensures c.in-default.ensures
+pub returns-in_default : goal.returns-in_default
+returns-in_default c = seen_none c.args.bytes.now c.args.guide.now c.args.base c.args.pos _ c.mark_at-last.ensures c.in_default.ensures
 
 pub returns : goal.returns
-returns c = seen_some c.args.bytes.now c.args.guide.now c.args.base c.args.pos _ c.in-Some.visit (let g = c.if-bytes-base.false in let f = c.if-base-bytes.false in omega arith) c.mark-at-last.ensures c.in-Some.ensures
+returns c = seen_some c.args.bytes.now c.args.guide.now c.args.base c.args.pos _ c.in-Some.visit (let g = c.if-bytes-base.false in let f = c.if-base-bytes.false in omega arith) c.mark_at-last.ensures c.in-Some.ensures

@@ -3,8 +3,8 @@ use Rattle.values.specs.Memory.{Copied}
 use Rattle.values.proofs.Copy.{copied_none, copied_more}
 use Rattle.values.proofs.memory.copy.Goals as goal
 
-pub overflow-add-from : goal.overflow-add-from
-overflow-add-from c = omega (arith, c.requires.readable.spots c.loop-i.i c.loop-i-test.true)
+pub overflow_add-from : goal.overflow_add-from
+overflow_add-from c = omega (arith, c.requires.readable.spots c.loop-i.i c.loop-i-test.true)
 
 pub loop-i-init : goal.loop-i-init
 loop-i-init c = copied_none c.args.from c.args.to _

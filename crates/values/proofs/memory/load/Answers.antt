@@ -34,6 +34,6 @@ pub returns-in-8 : goal.returns-in-8
 unfolding loaded
 returns-in-8 c = search rules
 
-pub returns-in-default : goal.returns-in-default
+pub returns-in_default : goal.returns-in_default
 unfolding loaded
-returns-in-default c = search rules
+returns-in_default c = search rules

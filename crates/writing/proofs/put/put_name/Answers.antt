@@ -6,7 +6,7 @@ pub returns : goal.returns
 returns c =
     record {
       within = omega arith;
-      means = name_put c.args.bytes.now c.args.place c.args.out.now c.put-number.new.out c.put-bytes.new.out _ _ _ _ c.put-number.auto.out (omega arith) (omega arith) refl c.put-number.ensures c.put-bytes.auto.out c.put-bytes.ensures refl;
+      means = name_put c.args.bytes.now c.args.place c.args.out.now c.put_number.new.out c.put_bytes.new.out _ _ _ _ c.put_number.auto.out (omega arith) (omega arith) refl c.put_number.ensures c.put_bytes.auto.out c.put_bytes.ensures refl;
     }
 
 pub returns-then-out-lt4 : goal.returns-then-out-lt4

@@ -8,4 +8,4 @@ pub returns-then-end-at-lt5 : goal.returns-then-end-at-lt5
 returns-then-end-at-lt5 c = omega (arith, length-append c.args.base.now c.args.mem.now)
 
 pub returns : goal.returns
-returns c = (omega (arith, length-append c.args.base.now c.args.mem.now), c.load-field.ensures)
+returns c = (omega (arith, length-append c.args.base.now c.args.mem.now), c.load_field.ensures)

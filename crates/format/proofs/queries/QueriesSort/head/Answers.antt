@@ -10,6 +10,6 @@ pub returns : goal.returns
 returns c =
     let xs = c.args.bytes.now in
     record {
-      opened = MatchResult-weaker c.query-node.result c.query-node.ensures (λ o r. node_opened queries query_heads query_arity query_laws TellsQuery xs o.head o.parts o.length r) (λ p t. unopened queries query_heads query_arity query_laws xs p t);
-      says = MatchResult-weaker c.query-node.result c.query-node.ensures (λ o r. record { thing = r.thing; begins = r.begins; says = r.says.0 }) (λ p t. tt);
+      opened = MatchResult-weaker c.query_node.result c.query_node.ensures (λ o r. node_opened queries query_heads query_arity query_laws TellsQuery xs o.head o.parts o.length r) (λ p t. unopened queries query_heads query_arity query_laws xs p t);
+      says = MatchResult-weaker c.query_node.result c.query_node.ensures (λ o r. record { thing = r.thing; begins = r.begins; says = r.says.0 }) (λ p t. tt);
     }

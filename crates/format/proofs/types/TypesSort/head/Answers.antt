@@ -10,6 +10,6 @@ pub returns : goal.returns
 returns c =
     let xs = c.args.bytes.now in
     record {
-      opened = MatchResult-weaker c.type-node.result c.type-node.ensures (λ o r. node_opened types ty_heads ty_arity ty_laws TellsType xs o.head o.parts o.length r) (λ p t. unopened types ty_heads ty_arity ty_laws xs p t);
-      says = MatchResult-weaker c.type-node.result c.type-node.ensures (λ o r. record { thing = r.thing; begins = r.begins; says = r.says.0 }) (λ p t. tt);
+      opened = MatchResult-weaker c.type_node.result c.type_node.ensures (λ o r. node_opened types ty_heads ty_arity ty_laws TellsType xs o.head o.parts o.length r) (λ p t. unopened types ty_heads ty_arity ty_laws xs p t);
+      says = MatchResult-weaker c.type_node.result c.type_node.ensures (λ o r. record { thing = r.thing; begins = r.begins; says = r.says.0 }) (λ p t. tt);
     }
