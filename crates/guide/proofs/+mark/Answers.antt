@@ -16,16 +16,16 @@ returns-in_default t c =
 pub overflow_add-t : goal.overflow_add-t
 overflow_add-t t c = omega (arith, just_short c.args.query.now c.args.guide.now c.args.at c.args.limit c.in-Ok.o.head c.in-Ok.o.parts c.in-Ok.o.length c.in-Ok.ensures c.in-Just.t c.in-Just.is)
 
-pub returns-in_err-m : goal.returns-in_err-m
-returns-in_err-m t c = rw c.from_residual.ensures (one_unmarked _ _ _ _ c.in-Ok.o.head c.in-Ok.o.parts c.in-Ok.o.length c.in-Ok.ensures _ c.in-1.is c.in_err-m.ensures)
+pub returns-in_err-m-in-1 : goal.returns-in_err-m-in-1
+returns-in_err-m-in-1 t c = rw c.from_residual.ensures (one_unmarked _ _ _ _ c.in-Ok.o.head c.in-Ok.o.parts c.in-Ok.o.length c.in-Ok.ensures _ c.in-1.is c.in_err-m-in-1.ensures)
 
-pub returns-in_err-m-2 : goal.returns-in_err-m-2
-returns-in_err-m-2 t c = rw c.from_residual-in_err-m-2.ensures (first_unmarked _ _ _ _ c.in-Ok.o.head c.in-Ok.o.parts c.in-Ok.o.length c.in-Ok.ensures _ (omega arith) c.in_err-m-2.ensures)
+pub returns-in_err-m-in_default-parts : goal.returns-in_err-m-in_default-parts
+returns-in_err-m-in_default-parts t c = rw c.from_residual-in_err-m-in_default-parts.ensures (first_unmarked _ _ _ _ c.in-Ok.o.head c.in-Ok.o.parts c.in-Ok.o.length c.in-Ok.ensures _ (omega arith) c.in_err-m-in_default-parts.ensures)
 
-pub returns-in_err-n : goal.returns-in_err-n
-returns-in_err-n t c =
-    rw c.from_residual-in_err-n.ensures
-    (last_unmarked _ _ _ _ c.in-Ok.o.head c.in-Ok.o.parts c.in-Ok.o.length c.in-Ok.ensures _ c.in_ok-m-2.m (omega arith) c.in_ok-m-2.ensures _ c.in_err-n.ensures)
+pub returns-in_err-n-in_default-parts : goal.returns-in_err-n-in_default-parts
+returns-in_err-n-in_default-parts t c =
+    rw c.from_residual-in_err-n-in_default-parts.ensures
+    (last_unmarked _ _ _ _ c.in-Ok.o.head c.in-Ok.o.parts c.in-Ok.o.length c.in-Ok.ensures _ c.in_ok-m-in_default-parts.m (omega arith) c.in_ok-m-in_default-parts.ensures _ c.in_err-n-in_default-parts.ensures)
 
 pub returns-in-Just : goal.returns-in-Just
 returns-in-Just t c =
@@ -34,10 +34,10 @@ returns-in-Just t c =
 pub returns-in_default-head : goal.returns-in_default-head
 returns-in_default-head t c = bare_marked _ c.args.guide.now _ _ c.in-Ok.o.head c.in-Ok.o.parts c.in-Ok.o.length c.in-Ok.ensures c.in-0.is c.in_default-head.not-Just
 
-pub returns-in_ok-m : goal.returns-in_ok-m
-returns-in_ok-m t c =
-    one_marked _ _ _ _ c.in-Ok.o.head c.in-Ok.o.parts c.in-Ok.o.length c.in-Ok.ensures _ _ c.in_ok-m.m c.note-in-1.result c.in-1.is c.in_ok-m.ensures c.note-in-1.auto.guide c.note-in-1.ensures
+pub returns-in_ok-m-in-1 : goal.returns-in_ok-m-in-1
+returns-in_ok-m-in-1 t c =
+    one_marked _ _ _ _ c.in-Ok.o.head c.in-Ok.o.parts c.in-Ok.o.length c.in-Ok.ensures _ _ c.in_ok-m-in-1.m c.note-in-1.result c.in-1.is c.in_ok-m-in-1.ensures c.note-in-1.auto.guide c.note-in-1.ensures
 
-pub returns-in_ok-n : goal.returns-in_ok-n
-returns-in_ok-n t c =
-    two_marked _ _ _ _ c.in-Ok.o.head c.in-Ok.o.parts c.in-Ok.o.length c.in-Ok.ensures _ c.in_ok-m-2.m (omega arith) c.in_ok-m-2.ensures _ _ c.in_ok-n.n c.note-in_default-parts.result c.in_ok-n.ensures c.note-in_default-parts.auto.guide c.note-in_default-parts.ensures
+pub returns-in_ok-n-in_default-parts : goal.returns-in_ok-n-in_default-parts
+returns-in_ok-n-in_default-parts t c =
+    two_marked _ _ _ _ c.in-Ok.o.head c.in-Ok.o.parts c.in-Ok.o.length c.in-Ok.ensures _ c.in_ok-m-in_default-parts.m (omega arith) c.in_ok-m-in_default-parts.ensures _ _ c.in_ok-n-in_default-parts.n c.note-in_default-parts.result c.in_ok-n-in_default-parts.ensures c.note-in_default-parts.auto.guide c.note-in_default-parts.ensures

@@ -10,16 +10,16 @@ pub bag_is-returns-in_err-end : goal.bag_is-returns-in_err-end
 bag_is-returns-in_err-end t c = rw c.from_residual.ensures (bag_open c.args.limit c.args.count c.args.datum.now c.args.start c.args.ty.now c.args.from c.in_err-end.ensures)
 
 pub bag_is-returns-in_err-ends : goal.bag_is-returns-in_err-ends
-bag_is-returns-in_err-ends t c = rw c.from_residual-in_err-ends.ensures (bag_refused c.args.limit c.args.count c.args.datum.now c.args.start c.args.ty.now c.args.from c.loop-i.-i c.loop-i.at c.loop-i.end c.loop-i.invariant c.loop-i-test.true c.in_err-ends.ensures)
+bag_is-returns-in_err-ends t c = rw c.from_residual-in_err-ends.ensures (bag_refused c.args.limit c.args.count c.args.datum.now c.args.start c.args.ty.now c.args.from c.loop-i._i c.loop-i.at c.loop-i.end c.loop-i.invariant c.loop-i-test.true c.in_err-ends.ensures)
 
 pub bag_is-loop-i-init : goal.bag_is-loop-i-init
 bag_is-loop-i-init t c = bag_begun c.args.limit c.args.count c.args.datum.now c.args.start c.args.ty.now c.args.from c.requires.0 c.requires.1
 
 pub bag_is-loop-i-preserved : goal.bag_is-loop-i-preserved
-bag_is-loop-i-preserved t c = bag_more c.args.limit c.args.count c.args.datum.now c.args.start c.args.ty.now c.args.from c.loop-i.-i c.loop-i.at c.loop-i.end c.loop-i.invariant c.in_ok-ends.ends c.loop-i-test.true c.in_ok-ends.ensures
+bag_is-loop-i-preserved t c = bag_more c.args.limit c.args.count c.args.datum.now c.args.start c.args.ty.now c.args.from c.loop-i._i c.loop-i.at c.loop-i.end c.loop-i.invariant c.in_ok-ends.ends c.loop-i-test.true c.in_ok-ends.ensures
 
 pub bag_is-returns : goal.bag_is-returns
-bag_is-returns t c = bag_done c.args.limit c.args.count c.args.datum.now c.args.start c.args.ty.now c.args.from c.loop-i.-i c.loop-i.at c.loop-i.end c.loop-i.invariant (omega arith) (omega arith)
+bag_is-returns t c = bag_done c.args.limit c.args.count c.args.datum.now c.args.start c.args.ty.now c.args.from c.loop-i._i c.loop-i.at c.loop-i.end c.loop-i.invariant (omega arith) (omega arith)
 
 pub datum_is-returns-then-limit-eq0 : goal.datum_is-returns-then-limit-eq0
 datum_is-returns-then-limit-eq0 t c = no_limit c.args.limit c.args.datum.now c.args.at c.args.ty.now c.args.from c.if-limit-eq0.true
@@ -55,10 +55,10 @@ pub values_are-loop-i-init : goal.values_are-loop-i-init
 values_are-loop-i-init t c = values_begun c.args.limit c.args.count c.args.datum.now c.args.start c.args.ty.now c.args.first c.requires.0 c.requires.1
 
 pub values_are-loop-i-preserved : goal.values_are-loop-i-preserved
-values_are-loop-i-preserved t c = values_more c.args.limit c.args.count c.args.datum.now c.args.start c.args.ty.now c.args.first c.loop-i.-i c.loop-i.at c.loop-i.from c.loop-i.invariant c.in_ok-ends.ends c.loop-i-test.true c.in_ok-ends.ensures
+values_are-loop-i-preserved t c = values_more c.args.limit c.args.count c.args.datum.now c.args.start c.args.ty.now c.args.first c.loop-i._i c.loop-i.at c.loop-i.from c.loop-i.invariant c.in_ok-ends.ends c.loop-i-test.true c.in_ok-ends.ensures
 
 pub values_are-returns-in_err-ends : goal.values_are-returns-in_err-ends
-values_are-returns-in_err-ends t c = rw c.from_residual.ensures (values_refused c.args.limit c.args.count c.args.datum.now c.args.start c.args.ty.now c.args.first c.loop-i.-i c.loop-i.at c.loop-i.from c.loop-i.invariant c.loop-i-test.true c.in_err-ends.ensures)
+values_are-returns-in_err-ends t c = rw c.from_residual.ensures (values_refused c.args.limit c.args.count c.args.datum.now c.args.start c.args.ty.now c.args.first c.loop-i._i c.loop-i.at c.loop-i.from c.loop-i.invariant c.loop-i-test.true c.in_err-ends.ensures)
 
 pub values_are-returns : goal.values_are-returns
-values_are-returns t c = values_done c.args.limit c.args.count c.args.datum.now c.args.start c.args.ty.now c.args.first c.loop-i.-i c.loop-i.at c.loop-i.from c.loop-i.invariant (omega arith)
+values_are-returns t c = values_done c.args.limit c.args.count c.args.datum.now c.args.start c.args.ty.now c.args.first c.loop-i._i c.loop-i.at c.loop-i.from c.loop-i.invariant (omega arith)

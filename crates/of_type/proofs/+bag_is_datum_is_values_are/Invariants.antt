@@ -12,7 +12,7 @@ abbrev pub decreases-values_are : goal.decreases-values_are
 decreases-values_are l = 2 * l.limit + 1
 
 abbrev pub invariant-bag_is-loop-i : goal.invariant-bag_is-loop-i
-invariant-bag_is-loop-i l = BagSoFar l.limit l.count l.datum l.start l.ty l.from l.-i l.at l.end
+invariant-bag_is-loop-i l = BagSoFar l.limit l.count l.datum l.start l.ty l.from l._i l.at l.end
 
 abbrev pub invariant-values_are-loop-i : goal.invariant-values_are-loop-i
-invariant-values_are-loop-i l = ValuesSoFar l.limit l.count l.datum l.start l.ty l.first l.-i l.at l.from
+invariant-values_are-loop-i l = ValuesSoFar l.limit l.count l.datum l.start l.ty l.first l._i l.at l.from

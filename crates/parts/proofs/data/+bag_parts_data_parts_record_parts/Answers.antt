@@ -14,14 +14,14 @@ use Rattle.parts.proofs.data.+bag_parts_data_parts_record_parts.Goals as goal
 pub bag_parts-returns-in_err-one : goal.bag_parts-returns-in_err-one
 bag_parts-returns-in_err-one t c =
     rw c.from_residual.ensures
-    (walk_over data_of size_d c.args.limit c.args.count c.args.bytes.now c.loop-i.-i c.loop-i.parts c.loop-i.end c.loop-i.invariant (omega arith) c.in_err-one.ensures)
+    (walk_over data_of size_d c.args.limit c.args.count c.args.bytes.now c.loop-i._i c.loop-i.parts c.loop-i.end c.loop-i.invariant (omega arith) c.in_err-one.ensures)
 
 pub bag_parts-loop-i-preserved : goal.bag_parts-loop-i-preserved
 bag_parts-loop-i-preserved t c =
-    walk_more data_of size_d c.args.limit c.args.count c.args.bytes.now c.loop-i.-i c.loop-i.parts c.loop-i.end c.loop-i.invariant c.in_ok-one.one (omega arith) c.in_ok-one.ensures
+    walk_more data_of size_d c.args.limit c.args.count c.args.bytes.now c.loop-i._i c.loop-i.parts c.loop-i.end c.loop-i.invariant c.in_ok-one.one (omega arith) c.in_ok-one.ensures
 
 pub bag_parts-returns : goal.bag_parts-returns
-bag_parts-returns t c = walk_done data_of size_d c.args.limit c.args.count c.args.bytes.now c.loop-i.-i c.loop-i.parts c.loop-i.end c.loop-i.invariant (omega arith)
+bag_parts-returns t c = walk_done data_of size_d c.args.limit c.args.count c.args.bytes.now c.loop-i._i c.loop-i.parts c.loop-i.end c.loop-i.invariant (omega arith)
 
 pub record_parts-returns-in_err-names : goal.record_parts-returns-in_err-names
 record_parts-returns-in_err-names t c =
@@ -54,15 +54,15 @@ data_parts-returns-then-n-limit t c = text_done c.args.limit c.args.bytes.now _ 
 pub data_parts-returns-else-n-limit : goal.data_parts-returns-else-n-limit
 data_parts-returns-else-n-limit t c = text_long c.args.limit c.args.bytes.now _ _ _ c.in-Ok.ensures _ c.in-Text.is (omega arith)
 
-pub data_parts-returns-in_err-inner : goal.data_parts-returns-in_err-inner
-data_parts-returns-in_err-inner t c = rw c.from_residual.ensures (record_over c.args.limit c.args.bytes.now _ _ _ c.in-Ok.ensures _ c.in-Record.is (omega arith) c.in_err-inner.ensures)
+pub data_parts-returns-in_err-inner-in-Record : goal.data_parts-returns-in_err-inner-in-Record
+data_parts-returns-in_err-inner-in-Record t c = rw c.from_residual.ensures (record_over c.args.limit c.args.bytes.now _ _ _ c.in-Ok.ensures _ c.in-Record.is (omega arith) c.in_err-inner-in-Record.ensures)
 
-pub data_parts-returns-in_ok-inner : goal.data_parts-returns-in_ok-inner
-data_parts-returns-in_ok-inner t c = record_done c.args.limit c.args.bytes.now _ _ _ c.in-Ok.ensures _ c.in_ok-inner.inner c.in-Record.is (omega arith) c.in_ok-inner.ensures
+pub data_parts-returns-in_ok-inner-in-Record : goal.data_parts-returns-in_ok-inner-in-Record
+data_parts-returns-in_ok-inner-in-Record t c = record_done c.args.limit c.args.bytes.now _ _ _ c.in-Ok.ensures _ c.in_ok-inner-in-Record.inner c.in-Record.is (omega arith) c.in_ok-inner-in-Record.ensures
 
-pub data_parts-returns-in_err-inner-2 : goal.data_parts-returns-in_err-inner-2
-data_parts-returns-in_err-inner-2 t c =
-    rw c.from_residual-in_err-inner-2.ensures (rest_over c.args.limit c.args.bytes.now _ _ _ c.in-Ok.ensures c.in_default.not-Text c.in_default.not-Record (omega arith) c.in_err-inner-2.ensures)
+pub data_parts-returns-in_err-inner-in_default : goal.data_parts-returns-in_err-inner-in_default
+data_parts-returns-in_err-inner-in_default t c =
+    rw c.from_residual-in_err-inner-in_default.ensures (rest_over c.args.limit c.args.bytes.now _ _ _ c.in-Ok.ensures c.in_default.not-Text c.in_default.not-Record (omega arith) c.in_err-inner-in_default.ensures)
 
-pub data_parts-returns-in_ok-inner-2 : goal.data_parts-returns-in_ok-inner-2
-data_parts-returns-in_ok-inner-2 t c = rest_done c.args.limit c.args.bytes.now _ _ _ c.in-Ok.ensures c.in_ok-inner-2.inner c.in_default.not-Text c.in_default.not-Record (omega arith) c.in_ok-inner-2.ensures
+pub data_parts-returns-in_ok-inner-in_default : goal.data_parts-returns-in_ok-inner-in_default
+data_parts-returns-in_ok-inner-in_default t c = rest_done c.args.limit c.args.bytes.now _ _ _ c.in-Ok.ensures c.in_ok-inner-in_default.inner c.in_default.not-Text c.in_default.not-Record (omega arith) c.in_ok-inner-in_default.ensures

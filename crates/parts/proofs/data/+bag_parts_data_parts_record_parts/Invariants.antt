@@ -14,4 +14,4 @@ abbrev pub decreases-record_parts : goal.decreases-record_parts
 decreases-record_parts l = 3 * l.limit + 2
 
 abbrev pub invariant-bag_parts-loop-i : goal.invariant-bag_parts-loop-i
-invariant-bag_parts-loop-i l = Walked data_of size_d l.limit l.count l.bytes l.-i l.parts l.end
+invariant-bag_parts-loop-i l = Walked data_of size_d l.limit l.count l.bytes l._i l.parts l.end

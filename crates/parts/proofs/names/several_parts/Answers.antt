@@ -10,13 +10,13 @@ pub returns-in_err-one : goal.returns-in_err-one
 returns-in_err-one c =
     rw c.from_residual.ensures
     (counted_as (many name c.args.count) (total name_size) sizes c.args.limit c.args.bytes.now _ total_sizes
-    (walk_over name name_size c.args.limit c.args.count c.args.bytes.now c.loop-i.-i c.loop-i.parts c.loop-i.end c.loop-i.invariant (omega arith) c.in_err-one.ensures))
+    (walk_over name name_size c.args.limit c.args.count c.args.bytes.now c.loop-i._i c.loop-i.parts c.loop-i.end c.loop-i.invariant (omega arith) c.in_err-one.ensures))
 
 pub loop-i-preserved : goal.loop-i-preserved
 loop-i-preserved c =
-    walk_more name name_size c.args.limit c.args.count c.args.bytes.now c.loop-i.-i c.loop-i.parts c.loop-i.end c.loop-i.invariant c.in_ok-one.one (omega arith) c.in_ok-one.ensures
+    walk_more name name_size c.args.limit c.args.count c.args.bytes.now c.loop-i._i c.loop-i.parts c.loop-i.end c.loop-i.invariant c.in_ok-one.one (omega arith) c.in_ok-one.ensures
 
 pub returns : goal.returns
 returns c =
     counted_as (many name c.args.count) (total name_size) sizes c.args.limit c.args.bytes.now _ total_sizes
-    (walk_done name name_size c.args.limit c.args.count c.args.bytes.now c.loop-i.-i c.loop-i.parts c.loop-i.end c.loop-i.invariant (omega arith))
+    (walk_done name name_size c.args.limit c.args.count c.args.bytes.now c.loop-i._i c.loop-i.parts c.loop-i.end c.loop-i.invariant (omega arith))

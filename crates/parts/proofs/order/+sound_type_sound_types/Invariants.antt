@@ -9,4 +9,4 @@ abbrev pub decreases-sound_type : goal.decreases-sound_type
 decreases-sound_type l = 2 * l.limit
 
 abbrev pub invariant-sound_types-loop-i : goal.invariant-sound_types-loop-i
-invariant-sound_types-loop-i l = Walked l.limit l.count l.bytes l.-i l.end
+invariant-sound_types-loop-i l = Walked l.limit l.count l.bytes l._i l.end

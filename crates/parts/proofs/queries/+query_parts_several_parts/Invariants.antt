@@ -11,4 +11,4 @@ abbrev pub decreases-query_parts : goal.decreases-query_parts
 decreases-query_parts l = 2 * l.limit
 
 abbrev pub invariant-several_parts-loop-i : goal.invariant-several_parts-loop-i
-invariant-several_parts-loop-i l = Walked queries size_q l.limit l.count l.bytes l.-i l.parts l.end
+invariant-several_parts-loop-i l = Walked queries size_q l.limit l.count l.bytes l._i l.parts l.end

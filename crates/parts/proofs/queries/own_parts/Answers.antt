@@ -9,17 +9,17 @@ use Rattle.parts.proofs.Owns.{weighed_over, weighed_some}
 use Rattle.parts.proofs.queries.own_parts.Goals as goal
 use Rattle.parts.proofs.queries.own_parts.Goals.{else-m-limit-via-then-m-limit+else-n-limit, else-m-limit-via-else-m-limit}
 
-pub returns-in_err-written : goal.returns-in_err-written
-returns-in_err-written c =
+pub returns-in_err-written-in-Just : goal.returns-in_err-written-in-Just
+returns-in_err-written-in-Just c =
     let xs = c.args.bytes.now in
     rw c.from_residual.ensures
-    (weighed_over query_heads TellsQuery own_q c.args.limit xs c.args.node written_out written_size 0 c.args.limit (own_just c.args.limit xs c.args.node _ c.in-Just.is) (omega arith) c.in_err-written.ensures)
+    (weighed_over query_heads TellsQuery own_q c.args.limit xs c.args.node written_out written_size 0 c.args.limit (own_just c.args.limit xs c.args.node _ c.in-Just.is) (omega arith) c.in_err-written-in-Just.ensures)
 
-pub returns-in_ok-written : goal.returns-in_ok-written
-returns-in_ok-written c =
+pub returns-in_ok-written-in-Just : goal.returns-in_ok-written-in-Just
+returns-in_ok-written-in-Just c =
     let xs = c.args.bytes.now in
-    weighed_some query_heads TellsQuery own_q c.args.limit xs c.args.node written_out written_size 0 c.args.limit (own_just c.args.limit xs c.args.node _ c.in-Just.is) (omega arith) c.in_ok-written.written _ (omega arith)
-    c.in_ok-written.ensures
+    weighed_some query_heads TellsQuery own_q c.args.limit xs c.args.node written_out written_size 0 c.args.limit (own_just c.args.limit xs c.args.node _ c.in-Just.is) (omega arith) c.in_ok-written-in-Just.written _ (omega arith)
+    c.in_ok-written-in-Just.ensures
 
 pub returns-in-One : goal.returns-in-One
 returns-in-One c = own_unary c.args.limit c.args.bytes.now c.args.node _ _ c.in-One.is c.unary_parts.ensures
@@ -31,29 +31,29 @@ pub returns-else-m-limit : goal.returns-else-m-limit
 returns-else-m-limit c = own_matched c.args.limit c.args.bytes.now c.args.node _ _ _ c.in-Matched.is
     (elim c.else-m-limit.branch [ else-m-limit-via-then-m-limit+else-n-limit w ↦ omega arith | else-m-limit-via-else-m-limit w ↦ omega arith ])
 
-pub returns-in_err-other : goal.returns-in_err-other
-returns-in_err-other c =
+pub returns-in_err-other-in-OnLeft : goal.returns-in_err-other-in-OnLeft
+returns-in_err-other-in-OnLeft c =
     let xs = c.args.bytes.now in
-    rw c.from_residual-in_err-other.ensures
-    (weighed_over query_heads TellsQuery own_q c.args.limit xs c.args.node types size_t 0 c.args.limit (own_left c.args.limit xs c.args.node _ c.in-OnLeft.is) (omega arith) c.in_err-other.ensures)
+    rw c.from_residual-in_err-other-in-OnLeft.ensures
+    (weighed_over query_heads TellsQuery own_q c.args.limit xs c.args.node types size_t 0 c.args.limit (own_left c.args.limit xs c.args.node _ c.in-OnLeft.is) (omega arith) c.in_err-other-in-OnLeft.ensures)
 
-pub returns-in_ok-other : goal.returns-in_ok-other
-returns-in_ok-other c =
+pub returns-in_ok-other-in-OnLeft : goal.returns-in_ok-other-in-OnLeft
+returns-in_ok-other-in-OnLeft c =
     let xs = c.args.bytes.now in
-    weighed_some query_heads TellsQuery own_q c.args.limit xs c.args.node types size_t 0 c.args.limit (own_left c.args.limit xs c.args.node _ c.in-OnLeft.is) (omega arith) c.in_ok-other.other _ (omega arith)
-    c.in_ok-other.ensures
+    weighed_some query_heads TellsQuery own_q c.args.limit xs c.args.node types size_t 0 c.args.limit (own_left c.args.limit xs c.args.node _ c.in-OnLeft.is) (omega arith) c.in_ok-other-in-OnLeft.other _ (omega arith)
+    c.in_ok-other-in-OnLeft.ensures
 
-pub returns-in_err-other-2 : goal.returns-in_err-other-2
-returns-in_err-other-2 c =
+pub returns-in_err-other-in-OnRight : goal.returns-in_err-other-in-OnRight
+returns-in_err-other-in-OnRight c =
     let xs = c.args.bytes.now in
-    rw c.from_residual-in_err-other-2.ensures
-    (weighed_over query_heads TellsQuery own_q c.args.limit xs c.args.node types size_t 0 c.args.limit (own_right c.args.limit xs c.args.node _ c.in-OnRight.is) (omega arith) c.in_err-other-2.ensures)
+    rw c.from_residual-in_err-other-in-OnRight.ensures
+    (weighed_over query_heads TellsQuery own_q c.args.limit xs c.args.node types size_t 0 c.args.limit (own_right c.args.limit xs c.args.node _ c.in-OnRight.is) (omega arith) c.in_err-other-in-OnRight.ensures)
 
-pub returns-in_ok-other-2 : goal.returns-in_ok-other-2
-returns-in_ok-other-2 c =
+pub returns-in_ok-other-in-OnRight : goal.returns-in_ok-other-in-OnRight
+returns-in_ok-other-in-OnRight c =
     let xs = c.args.bytes.now in
-    weighed_some query_heads TellsQuery own_q c.args.limit xs c.args.node types size_t 0 c.args.limit (own_right c.args.limit xs c.args.node _ c.in-OnRight.is) (omega arith) c.in_ok-other-2.other _ (omega arith)
-    c.in_ok-other-2.ensures
+    weighed_some query_heads TellsQuery own_q c.args.limit xs c.args.node types size_t 0 c.args.limit (own_right c.args.limit xs c.args.node _ c.in-OnRight.is) (omega arith) c.in_ok-other-in-OnRight.other _ (omega arith)
+    c.in_ok-other-in-OnRight.ensures
 
 pub returns-in_default : goal.returns-in_default
 returns-in_default c =

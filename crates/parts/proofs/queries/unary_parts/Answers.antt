@@ -10,11 +10,11 @@ use Rattle.parts.proofs.queries.unary_parts.Goals as goal
 pub returns-then-limit-eq0 : goal.returns-then-limit-eq0
 returns-then-limit-eq0 c = unary_none c.args.limit c.args.bytes.now c.args.op _ c.in-Only.is (omega arith)
 
-pub returns-in_err-names : goal.returns-in_err-names
-returns-in_err-names c =
+pub returns-in_err-names-in-Only : goal.returns-in_err-names-in-Only
+returns-in_err-names-in-Only c =
     let xs = c.args.bytes.now in
     rw c.from_residual.ensures
-    (weighed_over operators IsOp1 size_1 c.args.limit xs c.args.op (counted name) sizes 1 _ (unary_names c.args.limit xs c.args.op _ c.in-Only.is) (omega arith) c.in_err-names.ensures)
+    (weighed_over operators IsOp1 size_1 c.args.limit xs c.args.op (counted name) sizes 1 _ (unary_names c.args.limit xs c.args.op _ c.in-Only.is) (omega arith) c.in_err-names-in-Only.ensures)
 
 pub returns-in-Dot : goal.returns-in-Dot
 returns-in-Dot c = unary_dot c.args.limit c.args.bytes.now c.args.op _ _ c.in-Dot.is c.named_parts.ensures
@@ -25,10 +25,10 @@ returns-in-AsField c = unary_field c.args.limit c.args.bytes.now c.args.op _ _ c
 pub returns-in-Without : goal.returns-in-Without
 returns-in-Without c = unary_without c.args.limit c.args.bytes.now c.args.op _ _ c.in-Without.is c.named_parts-in-Without.ensures
 
-pub returns-in_ok-names : goal.returns-in_ok-names
-returns-in_ok-names c =
+pub returns-in_ok-names-in-Only : goal.returns-in_ok-names-in-Only
+returns-in_ok-names-in-Only c =
     let xs = c.args.bytes.now in
-    weighed_some operators IsOp1 size_1 c.args.limit xs c.args.op (counted name) sizes 1 _ (unary_names c.args.limit xs c.args.op _ c.in-Only.is) (omega arith) c.in_ok-names.names _ (omega arith) c.in_ok-names.ensures
+    weighed_some operators IsOp1 size_1 c.args.limit xs c.args.op (counted name) sizes 1 _ (unary_names c.args.limit xs c.args.op _ c.in-Only.is) (omega arith) c.in_ok-names-in-Only.names _ (omega arith) c.in_ok-names-in-Only.ensures
 
 pub returns-in_default : goal.returns-in_default
 returns-in_default c =

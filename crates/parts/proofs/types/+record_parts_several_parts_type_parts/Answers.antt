@@ -14,14 +14,14 @@ use Rattle.parts.proofs.types.+record_parts_several_parts_type_parts.Goals as go
 pub several_parts-returns-in_err-one : goal.several_parts-returns-in_err-one
 several_parts-returns-in_err-one t c =
     rw c.from_residual.ensures
-    (walk_over types size_t c.args.limit c.args.count c.args.bytes.now c.loop-i.-i c.loop-i.parts c.loop-i.end c.loop-i.invariant (omega arith) c.in_err-one.ensures)
+    (walk_over types size_t c.args.limit c.args.count c.args.bytes.now c.loop-i._i c.loop-i.parts c.loop-i.end c.loop-i.invariant (omega arith) c.in_err-one.ensures)
 
 pub several_parts-loop-i-preserved : goal.several_parts-loop-i-preserved
 several_parts-loop-i-preserved t c =
-    walk_more types size_t c.args.limit c.args.count c.args.bytes.now c.loop-i.-i c.loop-i.parts c.loop-i.end c.loop-i.invariant c.in_ok-one.one (omega arith) c.in_ok-one.ensures
+    walk_more types size_t c.args.limit c.args.count c.args.bytes.now c.loop-i._i c.loop-i.parts c.loop-i.end c.loop-i.invariant c.in_ok-one.one (omega arith) c.in_ok-one.ensures
 
 pub several_parts-returns : goal.several_parts-returns
-several_parts-returns t c = walk_done types size_t c.args.limit c.args.count c.args.bytes.now c.loop-i.-i c.loop-i.parts c.loop-i.end c.loop-i.invariant (omega arith)
+several_parts-returns t c = walk_done types size_t c.args.limit c.args.count c.args.bytes.now c.loop-i._i c.loop-i.parts c.loop-i.end c.loop-i.invariant (omega arith)
 
 pub record_parts-returns-in_err-names : goal.record_parts-returns-in_err-names
 record_parts-returns-in_err-names t c =
@@ -48,15 +48,15 @@ type_parts-slice_bounds-record_parts-count t c = tag_there c.args.limit c.args.b
 pub type_parts-slice_bounds-record_parts-start : goal.type_parts-slice_bounds-record_parts-start
 type_parts-slice_bounds-record_parts-start t c = let h : 1 ≤ length c.args.bytes.now = tag_there c.args.limit c.args.bytes.now _ _ _ c.in-Ok.ensures in search rules
 
-pub type_parts-returns-in_err-inner : goal.type_parts-returns-in_err-inner
-type_parts-returns-in_err-inner t c = rw c.from_residual.ensures (record_over c.args.limit c.args.bytes.now _ _ _ c.in-Ok.ensures _ c.in-Record.is (omega arith) c.in_err-inner.ensures)
+pub type_parts-returns-in_err-inner-in-Record : goal.type_parts-returns-in_err-inner-in-Record
+type_parts-returns-in_err-inner-in-Record t c = rw c.from_residual.ensures (record_over c.args.limit c.args.bytes.now _ _ _ c.in-Ok.ensures _ c.in-Record.is (omega arith) c.in_err-inner-in-Record.ensures)
 
-pub type_parts-returns-in_ok-inner : goal.type_parts-returns-in_ok-inner
-type_parts-returns-in_ok-inner t c = record_done c.args.limit c.args.bytes.now _ _ _ c.in-Ok.ensures _ c.in_ok-inner.inner c.in-Record.is (omega arith) c.in_ok-inner.ensures
+pub type_parts-returns-in_ok-inner-in-Record : goal.type_parts-returns-in_ok-inner-in-Record
+type_parts-returns-in_ok-inner-in-Record t c = record_done c.args.limit c.args.bytes.now _ _ _ c.in-Ok.ensures _ c.in_ok-inner-in-Record.inner c.in-Record.is (omega arith) c.in_ok-inner-in-Record.ensures
 
-pub type_parts-returns-in_err-inner-2 : goal.type_parts-returns-in_err-inner-2
-type_parts-returns-in_err-inner-2 t c =
-    rw c.from_residual-in_err-inner-2.ensures (rest_over c.args.limit c.args.bytes.now _ _ _ c.in-Ok.ensures c.in_default.not-Record (omega arith) c.in_err-inner-2.ensures)
+pub type_parts-returns-in_err-inner-in_default : goal.type_parts-returns-in_err-inner-in_default
+type_parts-returns-in_err-inner-in_default t c =
+    rw c.from_residual-in_err-inner-in_default.ensures (rest_over c.args.limit c.args.bytes.now _ _ _ c.in-Ok.ensures c.in_default.not-Record (omega arith) c.in_err-inner-in_default.ensures)
 
-pub type_parts-returns-in_ok-inner-2 : goal.type_parts-returns-in_ok-inner-2
-type_parts-returns-in_ok-inner-2 t c = rest_done c.args.limit c.args.bytes.now _ _ _ c.in-Ok.ensures c.in_ok-inner-2.inner c.in_default.not-Record (omega arith) c.in_ok-inner-2.ensures
+pub type_parts-returns-in_ok-inner-in_default : goal.type_parts-returns-in_ok-inner-in_default
+type_parts-returns-in_ok-inner-in_default t c = rest_done c.args.limit c.args.bytes.now _ _ _ c.in-Ok.ensures c.in_ok-inner-in_default.inner c.in_default.not-Record (omega arith) c.in_ok-inner-in_default.ensures

@@ -14,4 +14,4 @@ abbrev pub decreases-record_parts : goal.decreases-record_parts
 decreases-record_parts l = 3 * l.limit + 2
 
 abbrev pub invariant-several_parts-loop-i : goal.invariant-several_parts-loop-i
-invariant-several_parts-loop-i l = Walked types size_t l.limit l.count l.bytes l.-i l.parts l.end
+invariant-several_parts-loop-i l = Walked types size_t l.limit l.count l.bytes l._i l.parts l.end

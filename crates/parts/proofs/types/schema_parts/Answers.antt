@@ -11,13 +11,13 @@ pub returns-in_err-one : goal.returns-in_err-one
 returns-in_err-one c =
     rw c.from_residual.ensures
     (counted_as (many types c.args.count) (total entry_size) size_s c.args.limit c.args.bytes.now _ total_schema
-    (walk_over types entry_size c.args.limit c.args.count c.args.bytes.now c.loop-i.-i c.loop-i.parts c.loop-i.end c.loop-i.invariant (omega arith) c.in_err-one.ensures))
+    (walk_over types entry_size c.args.limit c.args.count c.args.bytes.now c.loop-i._i c.loop-i.parts c.loop-i.end c.loop-i.invariant (omega arith) c.in_err-one.ensures))
 
 pub loop-i-preserved : goal.loop-i-preserved
 loop-i-preserved c =
-    walk_more types entry_size c.args.limit c.args.count c.args.bytes.now c.loop-i.-i c.loop-i.parts c.loop-i.end c.loop-i.invariant c.in_ok-one.one (omega arith) c.in_ok-one.ensures
+    walk_more types entry_size c.args.limit c.args.count c.args.bytes.now c.loop-i._i c.loop-i.parts c.loop-i.end c.loop-i.invariant c.in_ok-one.one (omega arith) c.in_ok-one.ensures
 
 pub returns : goal.returns
 returns c =
     counted_as (many types c.args.count) (total entry_size) size_s c.args.limit c.args.bytes.now _ total_schema
-    (walk_done types entry_size c.args.limit c.args.count c.args.bytes.now c.loop-i.-i c.loop-i.parts c.loop-i.end c.loop-i.invariant (omega arith))
+    (walk_done types entry_size c.args.limit c.args.count c.args.bytes.now c.loop-i._i c.loop-i.parts c.loop-i.end c.loop-i.invariant (omega arith))
