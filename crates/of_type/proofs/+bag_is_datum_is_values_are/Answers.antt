@@ -33,20 +33,20 @@ datum_is-returns-in-Bag t c = as_bag c.args.limit c.args.datum.now c.args.at c.a
 pub datum_is-returns-in-Record : goal.datum_is-returns-in-Record
 datum_is-returns-in-Record t c = as_record c.args.limit c.args.datum.now c.args.at c.args.ty.now c.args.from c.in_ok-heads.heads c.in_ok-heads.ensures c.in-Record.count c.values_are.result c.in-Record.is c.values_are.ensures
 
-pub datum_is-returns-in_err-ends : goal.datum_is-returns-in_err-ends
-datum_is-returns-in_err-ends t c = rw c.from_residual-in_err-ends.ensures (not_left c.args.limit c.args.datum.now c.args.at c.args.ty.now c.args.from c.in_ok-heads.heads c.in_ok-heads.ensures c.in-Left.is c.in_err-ends.ensures)
+pub datum_is-returns-in_err-ends-in-Left : goal.datum_is-returns-in_err-ends-in-Left
+datum_is-returns-in_err-ends-in-Left t c = rw c.from_residual-in_err-ends-in-Left.ensures (not_left c.args.limit c.args.datum.now c.args.at c.args.ty.now c.args.from c.in_ok-heads.heads c.in_ok-heads.ensures c.in-Left.is c.in_err-ends-in-Left.ensures)
 
-pub datum_is-returns-in_err-end : goal.datum_is-returns-in_err-end
-datum_is-returns-in_err-end t c = rw c.from_residual-in_err-end.ensures (left_open c.args.limit c.args.datum.now c.args.at c.args.ty.now c.args.from c.in_ok-heads.heads c.in_ok-heads.ensures c.in-Left.is c.in_ok-ends.ends c.in_ok-ends.ensures c.in_err-end.ensures)
+pub datum_is-returns-in_err-end-in-Left : goal.datum_is-returns-in_err-end-in-Left
+datum_is-returns-in_err-end-in-Left t c = rw c.from_residual-in_err-end-in-Left.ensures (left_open c.args.limit c.args.datum.now c.args.at c.args.ty.now c.args.from c.in_ok-heads.heads c.in_ok-heads.ensures c.in-Left.is c.in_ok-ends-in-Left.ends c.in_ok-ends-in-Left.ensures c.in_err-end-in-Left.ensures)
 
-pub datum_is-returns-in_ok-end : goal.datum_is-returns-in_ok-end
-datum_is-returns-in_ok-end t c = as_left c.args.limit c.args.datum.now c.args.at c.args.ty.now c.args.from c.in_ok-heads.heads c.in_ok-heads.ensures c.in-Left.is c.in_ok-ends.ends c.in_ok-ends.ensures c.in_ok-end.end c.in_ok-end.ensures
+pub datum_is-returns-in_ok-end-in-Left : goal.datum_is-returns-in_ok-end-in-Left
+datum_is-returns-in_ok-end-in-Left t c = as_left c.args.limit c.args.datum.now c.args.at c.args.ty.now c.args.from c.in_ok-heads.heads c.in_ok-heads.ensures c.in-Left.is c.in_ok-ends-in-Left.ends c.in_ok-ends-in-Left.ensures c.in_ok-end-in-Left.end c.in_ok-end-in-Left.ensures
 
-pub datum_is-returns-in_err-second : goal.datum_is-returns-in_err-second
-datum_is-returns-in_err-second t c = rw c.from_residual-in_err-second.ensures (right_open c.args.limit c.args.datum.now c.args.at c.args.ty.now c.args.from c.in_ok-heads.heads c.in_ok-heads.ensures c.in-Right.is c.in_err-second.ensures)
+pub datum_is-returns-in_err-second-in-Right : goal.datum_is-returns-in_err-second-in-Right
+datum_is-returns-in_err-second-in-Right t c = rw c.from_residual-in_err-second-in-Right.ensures (right_open c.args.limit c.args.datum.now c.args.at c.args.ty.now c.args.from c.in_ok-heads.heads c.in_ok-heads.ensures c.in-Right.is c.in_err-second-in-Right.ensures)
 
-pub datum_is-returns-in_ok-second : goal.datum_is-returns-in_ok-second
-datum_is-returns-in_ok-second t c = as_right c.args.limit c.args.datum.now c.args.at c.args.ty.now c.args.from c.in_ok-heads.heads c.in_ok-heads.ensures c.in-Right.is c.in_ok-second.second c.datum_is-in-Right.result c.in_ok-second.ensures c.datum_is-in-Right.ensures
+pub datum_is-returns-in_ok-second-in-Right : goal.datum_is-returns-in_ok-second-in-Right
+datum_is-returns-in_ok-second-in-Right t c = as_right c.args.limit c.args.datum.now c.args.at c.args.ty.now c.args.from c.in_ok-heads.heads c.in_ok-heads.ensures c.in-Right.is c.in_ok-second-in-Right.second c.datum_is-in-Right.result c.in_ok-second-in-Right.ensures c.datum_is-in-Right.ensures
 
 pub datum_is-returns-in_default : goal.datum_is-returns-in_default
 datum_is-returns-in_default t c = as_plain c.args.limit c.args.datum.now c.args.at c.args.ty.now c.args.from c.in_ok-heads.heads c.in_ok-heads.ensures c.in_default.not-Bag c.in_default.not-Record c.in_default.not-Left c.in_default.not-Right

@@ -125,7 +125,7 @@ pub load_record-load_data-requires : goal.load_record-load_data-requires
 load_record-load_data-requires t c =
     let w = c.loop-i.invariant in
     let l = length-append c.args.base.now c.loop-i.mem in
-    (omega arith, (record { over = omega (arith, w.above); fits = omega arith }, (omega (arith, w.within), record { datum = omega (arith, w.before); type = omega (arith, w.before-type) })))
+    (omega arith, (record { over = omega (arith, w.above); fits = omega arith }, (omega (arith, w.within), record { datum = omega (arith, w.before); type = omega (arith, w.before_type) })))
 
 pub load_record-returns-in_err-l : goal.load_record-returns-in_err-l
 load_record-returns-in_err-l t c =
@@ -156,7 +156,7 @@ load_record-returns t c =
     let all : c.loop-i.i ≡ c.in_ok-head.head.count = omega (arith, c.loop-i.auto.i-end, c.loop-i-test.false) in
     record {
       kept = w.kept;
-      inside = record { above = omega (arith, w.above); within = w.within; datum = omega (arith, w.before, w.after); type = omega (arith, w.before-type, w.after-type) };
+      inside = record { above = omega (arith, w.above); within = w.within; datum = omega (arith, w.before, w.after); type = omega (arith, w.before_type, w.after_type) };
       means = records.finished c.args.bytes.now c.args.at c.args.ty c.args.depth c.args.top _ _ _ _ _ _ _ _ w all;
     }
 

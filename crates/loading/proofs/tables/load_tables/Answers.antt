@@ -17,7 +17,7 @@ pub load_data-requires : goal.load_data-requires
 load_data-requires c =
     let w = c.loop-i.invariant in
     let l = length-append c.args.base.now c.loop-i.mem in
-    record { space = record { over = omega (arith, w.above); fits = omega arith }; room = omega (arith, w.within); placed = record { datum = omega (arith, w.before); type = omega (arith, w.before-type) } }
+    record { space = record { over = omega (arith, w.above); fits = omega arith }; room = omega (arith, w.within); placed = record { datum = omega (arith, w.before); type = omega (arith, w.before_type) } }
 
 pub returns-in_err-l : goal.returns-in_err-l
 returns-in_err-l c =

@@ -37,7 +37,7 @@ made-requires c =
       tidy = g.grew.tidy;
       same = g.grew.names ∙ c.requires.same;
       cap = c.loop-p.invariant.1.ranks;
-      top = let l = ap (λ (z : List ℕ). length z) d in let k = g.long in let t = g.top-in in omega arith;
+      top = let l = ap (λ (z : List ℕ). length z) d in let k = g.long in let t = g.top_in in omega arith;
       numbers = names_as _ _ _ _ refl (ap (λ (z : List ℕ). drop c.loop-p.top z) d) g.numbers;
     }
 
