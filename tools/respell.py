@@ -49,8 +49,10 @@ def turns(name):
 
 
 def files(root):
-    for folder, dirs, names in os.walk(os.path.join(root, "crates")):
-        dirs[:] = sorted(it for it in dirs if it != "out")
+    top = os.path.join(root, "crates")
+    for folder, dirs, names in os.walk(top):
+        # what rt makes of a crate lies in the folder out beside src
+        dirs[:] = sorted(it for it in dirs if it != "out" or os.path.dirname(folder) != top)
         for it in sorted(names):
             if it.endswith((".antt", ".rt", ".edit")):
                 yield os.path.join(folder, it)

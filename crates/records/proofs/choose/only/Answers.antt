@@ -1,7 +1,7 @@
 use Rattle.std.proofs.Common.{arith, length-append}
 use Rattle.records.proofs.Choosing.{take_begins, take_not, take_push, take_no_room, take_ends}
 use Rattle.records.proofs.choose.only.Goals as goal
-use Rattle.records.proofs.choose.only.Goals.{then-one-of+else-not-push, else-one_of}
+use Rattle.records.proofs.choose.only.Goals.{then-one_of+else-not-push, else-one_of}
 
 pub loop-i-init : goal.loop-i-init
 loop-i-init c = take_begins c.args.bytes.now c.args.names c.args.many c.args.place _ c.args.top (omega (arith, c.requires.within, length-append c.args.base.now c.args.mem.now))
@@ -33,7 +33,7 @@ overflow_add-count c = omega (arith, c.requires.space.fits, c.loop-i.auto.mem, c
 pub loop-i-preserved : goal.loop-i-preserved
 loop-i-preserved c =
     elim c.if-one_of.branch [
-      | then-one-of+else-not-push w ↦ rw (w.mem-is, w.count-is) (take_push c.args.bytes.now c.args.names c.args.many c.args.place _ c.args.top _ c.loop-i.i c.loop-i.count c.loop-i.invariant c.load_field-f.result c.loop-i-test.true c.load_field-f.ensures _ w.if-one_of.ensures w.if-not-push.ensures)
+      | then-one_of+else-not-push w ↦ rw (w.mem-is, w.count-is) (take_push c.args.bytes.now c.args.names c.args.many c.args.place _ c.args.top _ c.loop-i.i c.loop-i.count c.loop-i.invariant c.load_field-f.result c.loop-i-test.true c.load_field-f.ensures _ w.if-one_of.ensures w.if-not-push.ensures)
       | else-one_of w ↦ rw (w.mem-is, w.count-is) (take_not c.args.bytes.now c.args.names c.args.many c.args.place _ c.args.top _ c.loop-i.i c.loop-i.count c.loop-i.invariant c.load_field-f.result c.loop-i-test.true c.load_field-f.ensures w.if-one_of.ensures)
     ]
 
