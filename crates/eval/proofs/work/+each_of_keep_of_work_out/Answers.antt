@@ -40,10 +40,10 @@ work_out-slice_bounds-work_out-start t c = let w = s_within c.args.left _ _ c.in
 pub work_out-work_out-requires : goal.work_out-work_out-requires
 work_out-work_out-requires t c = let w = s_within c.args.left _ _ c.in-Single.op refl (seen _ _ _ _ refl _ _ c.in-Some.ensures c.in-Single.ensures) c.requires.ready in let f = from_length _ _ w.0 w.1 in (omega (arith, f), (c.requires.space, s_ready c.args.left _ _ _ refl (seen _ _ _ _ refl _ _ c.in-Some.ensures c.in-Single.ensures) c.requires.ready))
 
-pub work_out-returns-in_err-only : goal.work_out-returns-in_err-only
-work_out-returns-in_err-only t c =
+pub work_out-returns-in_err-only-in-Single : goal.work_out-returns-in_err-only-in-Single
+work_out-returns-in_err-only-in-Single t c =
     let p = err_from_is_err_and c.from_residual.result c.from_residual.ensures.1 in
-    let e = c.in_err-only.ensures in
+    let e = c.in_err-only-in-Single.ensures in
     record { kept = e.kept; means = rw (p.1, p.2) (s_stops c.args.left _ _ _ refl (seen _ _ _ _ refl _ _ c.in-Some.ensures c.in-Single.ensures) c.if-left-eq0.false _ _ e.means) }
 
 pub work_out-overflow_add-scene : goal.work_out-overflow_add-scene
@@ -51,13 +51,13 @@ work_out-overflow_add-scene t c = omega (arith, in_bytes c.requires.ready.stands
 
 pub work_out-single_of-requires : goal.work_out-single_of-requires
 work_out-single_of-requires t c =
-    let e = c.in_ok-only.ensures in
+    let e = c.in_ok-only-in-Single.ensures in
     let f = s_came c.args.left _ _ _ refl (seen _ _ _ _ refl _ _ c.in-Some.ensures c.in-Single.ensures) c.if-left-eq0.false _ _ e.means c.requires.ready in
     record { space = omega (arith, c.requires.space, f.above); ready = s_one c.args.left _ _ _ refl (seen _ _ _ _ refl _ _ c.in-Some.ensures c.in-Single.ensures) c.if-left-eq0.false _ _ e.means c.requires.ready }
 
-pub work_out-returns-in_ok-only : goal.work_out-returns-in_ok-only
-work_out-returns-in_ok-only t c =
-    let e = c.in_ok-only.ensures in
+pub work_out-returns-in_ok-only-in-Single : goal.work_out-returns-in_ok-only-in-Single
+work_out-returns-in_ok-only-in-Single t c =
+    let e = c.in_ok-only-in-Single.ensures in
     let s = c.single_of.ensures in
     record {
       kept = kept_trans e.kept s.kept (s_came c.args.left _ _ _ refl (seen _ _ _ _ refl _ _ c.in-Some.ensures c.in-Single.ensures) c.if-left-eq0.false _ _ e.means c.requires.ready).above;
@@ -85,26 +85,26 @@ work_out-overflow_add-at-in-Pair t c = omega (arith, in_bytes (p_ready c.args.le
 pub work_out-work_out-requires-in-Pair : goal.work_out-work_out-requires-in-Pair
 work_out-work_out-requires-in-Pair t c = let w = p_within c.args.left _ _ _ refl (seen _ _ _ _ refl _ _ c.in-Some.ensures c.in-Pair.ensures) c.requires.ready in let f = from_length _ _ w.3 w.4 in (omega (arith, f), (c.requires.space, p_ready c.args.left _ _ _ refl (seen _ _ _ _ refl _ _ c.in-Some.ensures c.in-Pair.ensures) c.requires.ready))
 
-pub work_out-returns-in_err-one : goal.work_out-returns-in_err-one
-work_out-returns-in_err-one t c =
-    let p = err_from_is_err_and c.from_residual-in_err-one.result c.from_residual-in_err-one.ensures.1 in
-    let e = c.in_err-one.ensures in
+pub work_out-returns-in_err-one-in-Pair : goal.work_out-returns-in_err-one-in-Pair
+work_out-returns-in_err-one-in-Pair t c =
+    let p = err_from_is_err_and c.from_residual-in_err-one-in-Pair.result c.from_residual-in_err-one-in-Pair.ensures.1 in
+    let e = c.in_err-one-in-Pair.ensures in
     record { kept = e.kept; means = rw (p.1, p.2) (p_first_stops c.args.left _ _ _ refl (seen _ _ _ _ refl _ _ c.in-Some.ensures c.in-Pair.ensures) (omega (arith, c.if-left-due.false, c.price-due.ensures)) _ _ (same_due c.args.left _ _ c.price-due.ensures e.means)) }
 
 pub work_out-work_out-requires-in-Pair-2 : goal.work_out-work_out-requires-in-Pair-2
 work_out-work_out-requires-in-Pair-2 t c =
-    let e = c.in_ok-one.ensures in
+    let e = c.in_ok-one-in-Pair.ensures in
     let f = p_came c.args.left _ _ _ refl (seen _ _ _ _ refl _ _ c.in-Some.ensures c.in-Pair.ensures) (omega (arith, c.if-left-due.false, c.price-due.ensures)) _ _ e.kept (same_due c.args.left _ _ c.price-due.ensures e.means) c.requires.ready in
     let w = p_within c.args.left _ _ _ refl (seen _ _ _ _ refl _ _ c.in-Some.ensures c.in-Pair.ensures) c.requires.ready in
     let q = from_length _ _ w.0 w.1 in
     (omega (arith, q), (omega (arith, c.requires.space, f.above), p_next c.args.left _ _ _ refl (seen _ _ _ _ refl _ _ c.in-Some.ensures c.in-Pair.ensures) (omega (arith, c.if-left-due.false, c.price-due.ensures)) _ _ e.kept (same_due c.args.left _ _ c.price-due.ensures e.means) c.requires.ready))
 
-pub work_out-returns-in_err-other : goal.work_out-returns-in_err-other
-work_out-returns-in_err-other t c =
-    let p = err_from_is_err_and c.from_residual-in_err-other.result c.from_residual-in_err-other.ensures.1 in
-    let e = c.in_ok-one.ensures in
+pub work_out-returns-in_err-other-in-Pair : goal.work_out-returns-in_err-other-in-Pair
+work_out-returns-in_err-other-in-Pair t c =
+    let p = err_from_is_err_and c.from_residual-in_err-other-in-Pair.result c.from_residual-in_err-other-in-Pair.ensures.1 in
+    let e = c.in_ok-one-in-Pair.ensures in
     let f = p_came c.args.left _ _ _ refl (seen _ _ _ _ refl _ _ c.in-Some.ensures c.in-Pair.ensures) (omega (arith, c.if-left-due.false, c.price-due.ensures)) _ _ e.kept (same_due c.args.left _ _ c.price-due.ensures e.means) c.requires.ready in
-    let d = c.in_err-other.ensures in
+    let d = c.in_err-other-in-Pair.ensures in
     record { kept = kept_trans e.kept d.kept f.above; means = rw (p.1, p.2) (p_second_stops c.args.left _ _ _ refl (seen _ _ _ _ refl _ _ c.in-Some.ensures c.in-Pair.ensures) (omega (arith, c.if-left-due.false, c.price-due.ensures)) _ _ e.kept (same_due c.args.left _ _ c.price-due.ensures e.means) _ _ d.means) }
 
 pub work_out-overflow_add-scene-in-Pair : goal.work_out-overflow_add-scene-in-Pair
@@ -112,17 +112,17 @@ work_out-overflow_add-scene-in-Pair t c = omega (arith, in_bytes c.requires.read
 
 pub work_out-pair_of-requires : goal.work_out-pair_of-requires
 work_out-pair_of-requires t c =
-    let e = c.in_ok-one.ensures in
+    let e = c.in_ok-one-in-Pair.ensures in
     let f = p_came c.args.left _ _ _ refl (seen _ _ _ _ refl _ _ c.in-Some.ensures c.in-Pair.ensures) (omega (arith, c.if-left-due.false, c.price-due.ensures)) _ _ e.kept (same_due c.args.left _ _ c.price-due.ensures e.means) c.requires.ready in
-    let d = c.in_ok-other.ensures in
+    let d = c.in_ok-other-in-Pair.ensures in
     let s = p_came_next c.args.left _ _ _ refl (seen _ _ _ _ refl _ _ c.in-Some.ensures c.in-Pair.ensures) (omega (arith, c.if-left-due.false, c.price-due.ensures)) _ _ e.kept (same_due c.args.left _ _ c.price-due.ensures e.means) _ _ d.kept d.means c.requires.ready in
     record { space = omega (arith, c.requires.space, f.above, s.above); ready = p_two c.args.left _ _ _ refl (seen _ _ _ _ refl _ _ c.in-Some.ensures c.in-Pair.ensures) (omega (arith, c.if-left-due.false, c.price-due.ensures)) _ _ e.kept (same_due c.args.left _ _ c.price-due.ensures e.means) _ _ d.kept d.means c.requires.ready }
 
-pub work_out-returns-in_ok-other : goal.work_out-returns-in_ok-other
-work_out-returns-in_ok-other t c =
-    let e = c.in_ok-one.ensures in
+pub work_out-returns-in_ok-other-in-Pair : goal.work_out-returns-in_ok-other-in-Pair
+work_out-returns-in_ok-other-in-Pair t c =
+    let e = c.in_ok-one-in-Pair.ensures in
     let f = p_came c.args.left _ _ _ refl (seen _ _ _ _ refl _ _ c.in-Some.ensures c.in-Pair.ensures) (omega (arith, c.if-left-due.false, c.price-due.ensures)) _ _ e.kept (same_due c.args.left _ _ c.price-due.ensures e.means) c.requires.ready in
-    let d = c.in_ok-other.ensures in
+    let d = c.in_ok-other-in-Pair.ensures in
     let s = p_came_next c.args.left _ _ _ refl (seen _ _ _ _ refl _ _ c.in-Some.ensures c.in-Pair.ensures) (omega (arith, c.if-left-due.false, c.price-due.ensures)) _ _ e.kept (same_due c.args.left _ _ c.price-due.ensures e.means) _ _ d.kept d.means c.requires.ready in
     record {
       kept = kept_trans e.kept (kept_trans d.kept c.pair_of.ensures.kept s.above) f.above;
@@ -138,10 +138,10 @@ work_out-slice_bounds-work_out-start-in-Over t c = let w = o_within c.args.left 
 pub work_out-work_out-requires-in-Over : goal.work_out-work_out-requires-in-Over
 work_out-work_out-requires-in-Over t c = let w = o_within c.args.left _ _ c.in-Over.over refl (seen _ _ _ _ refl _ _ c.in-Some.ensures c.in-Over.ensures) c.requires.ready in let f = from_length _ _ w.0 w.1 in (omega (arith, f), (c.requires.space, o_ready c.args.left _ _ _ refl (seen _ _ _ _ refl _ _ c.in-Some.ensures c.in-Over.ensures) c.requires.ready))
 
-pub work_out-returns-in_err-inner : goal.work_out-returns-in_err-inner
-work_out-returns-in_err-inner t c =
-    let p = err_from_is_err_and c.from_residual-in_err-inner.result c.from_residual-in_err-inner.ensures.1 in
-    let e = c.in_err-inner.ensures in
+pub work_out-returns-in_err-inner-in-Over : goal.work_out-returns-in_err-inner-in-Over
+work_out-returns-in_err-inner-in-Over t c =
+    let p = err_from_is_err_and c.from_residual-in_err-inner-in-Over.result c.from_residual-in_err-inner-in-Over.ensures.1 in
+    let e = c.in_err-inner-in-Over.ensures in
     record { kept = e.kept; means = rw (p.1, p.2) (o_stops c.args.left _ _ _ refl (seen _ _ _ _ refl _ _ c.in-Some.ensures c.in-Over.ensures) _ _ e.means) }
 
 pub work_out-slice_bounds-part-count : goal.work_out-slice_bounds-part-count
@@ -164,7 +164,7 @@ work_out-overflow_add-at-in-WithEnv t c = omega (arith, in_bytes (first_stands c
 
 pub work_out-each_of-requires : goal.work_out-each_of-requires
 work_out-each_of-requires t c =
-    let e = c.in_ok-inner.ensures in
+    let e = c.in_ok-inner-in-Over.ensures in
     let f = o_came c.args.left _ _ _ refl (seen _ _ _ _ refl _ _ c.in-Some.ensures c.in-Over.ensures) _ _ e.kept e.means c.requires.ready in
     let w = o_within c.args.left _ _ _ refl (seen _ _ _ _ refl _ _ c.in-Some.ensures c.in-Over.ensures) c.requires.ready in
     let q = from_length _ _ w.3 w.4 in
@@ -172,7 +172,7 @@ work_out-each_of-requires t c =
 
 pub work_out-keep_of-requires : goal.work_out-keep_of-requires
 work_out-keep_of-requires t c =
-    let e = c.in_ok-inner.ensures in
+    let e = c.in_ok-inner-in-Over.ensures in
     let f = o_came c.args.left _ _ _ refl (seen _ _ _ _ refl _ _ c.in-Some.ensures c.in-Over.ensures) _ _ e.kept e.means c.requires.ready in
     let w = o_within c.args.left _ _ _ refl (seen _ _ _ _ refl _ _ c.in-Some.ensures c.in-Over.ensures) c.requires.ready in
     let q = from_length _ _ w.3 w.4 in
@@ -180,7 +180,7 @@ work_out-keep_of-requires t c =
 
 pub work_out-work_out-requires-in-Then : goal.work_out-work_out-requires-in-Then
 work_out-work_out-requires-in-Then t c =
-    let e = c.in_ok-inner.ensures in
+    let e = c.in_ok-inner-in-Over.ensures in
     let f = o_came c.args.left _ _ _ refl (seen _ _ _ _ refl _ _ c.in-Some.ensures c.in-Over.ensures) _ _ e.kept e.means c.requires.ready in
     let w = o_within c.args.left _ _ _ refl (seen _ _ _ _ refl _ _ c.in-Some.ensures c.in-Over.ensures) c.requires.ready in
     let q = from_length _ _ w.3 w.4 in
@@ -188,7 +188,7 @@ work_out-work_out-requires-in-Then t c =
 
 pub work_out-work_out-requires-in-WithEnv : goal.work_out-work_out-requires-in-WithEnv
 work_out-work_out-requires-in-WithEnv t c =
-    let e = c.in_ok-inner.ensures in
+    let e = c.in_ok-inner-in-Over.ensures in
     let f = o_came c.args.left _ _ _ refl (seen _ _ _ _ refl _ _ c.in-Some.ensures c.in-Over.ensures) _ _ e.kept e.means c.requires.ready in
     let w = o_within c.args.left _ _ _ refl (seen _ _ _ _ refl _ _ c.in-Some.ensures c.in-Over.ensures) c.requires.ready in
     let q = from_length _ _ w.3 w.4 in
@@ -196,28 +196,28 @@ work_out-work_out-requires-in-WithEnv t c =
 
 pub work_out-returns-in-Each : goal.work_out-returns-in-Each
 work_out-returns-in-Each t c =
-    let e = c.in_ok-inner.ensures in
+    let e = c.in_ok-inner-in-Over.ensures in
     let f = o_came c.args.left _ _ _ refl (seen _ _ _ _ refl _ _ c.in-Some.ensures c.in-Over.ensures) _ _ e.kept e.means c.requires.ready in
     let s = c.each_of.ensures in
     record { kept = kept_trans e.kept s.kept f.above; means = each_comes c.args.left _ _ refl (seen _ _ _ _ refl _ _ c.in-Some.ensures (subst (λ o. TellsShape c.in-Some.visit.node (sh.Over o)) c.in-Each.is c.in-Over.ensures)) _ _ e.kept e.means _ c.place_of.ensures _ _ s.means }
 
 pub work_out-returns-in-Keep : goal.work_out-returns-in-Keep
 work_out-returns-in-Keep t c =
-    let e = c.in_ok-inner.ensures in
+    let e = c.in_ok-inner-in-Over.ensures in
     let f = o_came c.args.left _ _ _ refl (seen _ _ _ _ refl _ _ c.in-Some.ensures c.in-Over.ensures) _ _ e.kept e.means c.requires.ready in
     let s = c.keep_of.ensures in
     record { kept = kept_trans e.kept s.kept f.above; means = keep_comes c.args.left _ _ refl (seen _ _ _ _ refl _ _ c.in-Some.ensures (subst (λ o. TellsShape c.in-Some.visit.node (sh.Over o)) c.in-Keep.is c.in-Over.ensures)) _ _ e.kept e.means _ c.place_of-in-Keep.ensures _ _ s.means }
 
 pub work_out-returns-in-Then : goal.work_out-returns-in-Then
 work_out-returns-in-Then t c =
-    let e = c.in_ok-inner.ensures in
+    let e = c.in_ok-inner-in-Over.ensures in
     let f = o_came c.args.left _ _ _ refl (seen _ _ _ _ refl _ _ c.in-Some.ensures c.in-Over.ensures) _ _ e.kept e.means c.requires.ready in
     let s = c.work_out-in-Then.ensures in
     record { kept = kept_trans e.kept s.kept f.above; means = then_comes c.args.left _ _ refl (seen _ _ _ _ refl _ _ c.in-Some.ensures (subst (λ o. TellsShape c.in-Some.visit.node (sh.Over o)) c.in-Then.is c.in-Over.ensures)) _ _ e.kept e.means _ _ s.means }
 
 pub work_out-returns-in-WithEnv : goal.work_out-returns-in-WithEnv
 work_out-returns-in-WithEnv t c =
-    let e = c.in_ok-inner.ensures in
+    let e = c.in_ok-inner-in-Over.ensures in
     let f = o_came c.args.left _ _ _ refl (seen _ _ _ _ refl _ _ c.in-Some.ensures c.in-Over.ensures) _ _ e.kept e.means c.requires.ready in
     let s = c.work_out-in-WithEnv.ensures in
     record { kept = kept_trans e.kept s.kept f.above; means = env_comes c.args.left _ _ refl (seen _ _ _ _ refl _ _ c.in-Some.ensures (subst (λ o. TellsShape c.in-Some.visit.node (sh.Over o)) c.in-WithEnv.is c.in-Over.ensures)) _ _ e.kept e.means _ _ s.means }
@@ -234,10 +234,10 @@ work_out-overflow_add-at-in-Default t c = omega (arith, in_bytes (d_ready c.args
 pub work_out-work_out-requires-in-Default : goal.work_out-work_out-requires-in-Default
 work_out-work_out-requires-in-Default t c = let w = d_within c.args.left _ _ refl (seen _ _ _ _ refl _ _ c.in-Some.ensures c.in-Default.ensures) c.requires.ready in let f = from_length _ _ w.3 w.4 in (omega (arith, f), (c.requires.space, d_ready c.args.left _ _ refl (seen _ _ _ _ refl _ _ c.in-Some.ensures c.in-Default.ensures) c.requires.ready))
 
-pub work_out-returns-in_err-given : goal.work_out-returns-in_err-given
-work_out-returns-in_err-given t c =
-    let p = err_from_is_err_and c.from_residual-in_err-given.result c.from_residual-in_err-given.ensures.1 in
-    let e = c.in_err-given.ensures in
+pub work_out-returns-in_err-given-in-Default : goal.work_out-returns-in_err-given-in-Default
+work_out-returns-in_err-given-in-Default t c =
+    let p = err_from_is_err_and c.from_residual-in_err-given-in-Default.result c.from_residual-in_err-given-in-Default.ensures.1 in
+    let e = c.in_err-given-in-Default.ensures in
     record { kept = e.kept; means = rw (p.1, p.2) (d_stops c.args.left _ _ refl (seen _ _ _ _ refl _ _ c.in-Some.ensures c.in-Default.ensures) _ _ e.means) }
 
 pub work_out-slice_bounds-work_out-count-then-is_empty : goal.work_out-slice_bounds-work_out-count-then-is_empty
@@ -248,7 +248,7 @@ work_out-slice_bounds-work_out-start-then-is_empty t c = let w = d_within c.args
 
 pub work_out-work_out-requires-then-is_empty : goal.work_out-work_out-requires-then-is_empty
 work_out-work_out-requires-then-is_empty t c =
-    let e = c.in_ok-given.ensures in
+    let e = c.in_ok-given-in-Default.ensures in
     let f = d_came c.args.left _ _ refl (seen _ _ _ _ refl _ _ c.in-Some.ensures c.in-Default.ensures) _ _ e.kept e.means c.requires.ready in
     let w = d_within c.args.left _ _ refl (seen _ _ _ _ refl _ _ c.in-Some.ensures c.in-Default.ensures) c.requires.ready in
     let q = from_length _ _ w.0 w.1 in
@@ -256,14 +256,14 @@ work_out-work_out-requires-then-is_empty t c =
 
 pub work_out-returns-then-is_empty : goal.work_out-returns-then-is_empty
 work_out-returns-then-is_empty t c =
-    let e = c.in_ok-given.ensures in
+    let e = c.in_ok-given-in-Default.ensures in
     let f = d_came c.args.left _ _ refl (seen _ _ _ _ refl _ _ c.in-Some.ensures c.in-Default.ensures) _ _ e.kept e.means c.requires.ready in
     let s = c.work_out-then-is_empty.ensures in
     record { kept = kept_trans e.kept s.kept f.above; means = d_other c.args.left _ _ refl (seen _ _ _ _ refl _ _ c.in-Some.ensures c.in-Default.ensures) _ _ e.kept e.means (sym c.is_empty.ensures ∙ c.if-is_empty.true) _ _ s.means }
 
 pub work_out-returns-else-is_empty : goal.work_out-returns-else-is_empty
 work_out-returns-else-is_empty t c =
-    let e = c.in_ok-given.ensures in
+    let e = c.in_ok-given-in-Default.ensures in
     record { kept = e.kept; means = d_same c.args.left _ _ refl (seen _ _ _ _ refl _ _ c.in-Some.ensures c.in-Default.ensures) _ _ e.kept e.means (sym c.is_empty.ensures ∙ c.if-is_empty.false) }
 
 pub work_out-returns-then-left-eq0-2 : goal.work_out-returns-then-left-eq0-2
