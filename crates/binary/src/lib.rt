@@ -1,12 +1,12 @@
 // Operators on what two parts of a query came to.
-mod by;
-mod choose;
-mod fill;
-mod of_bags;
-mod of_records;
-mod operate;
-mod pair_up;
-mod plain;
+pub mod by;
+pub mod choose;
+pub mod fill;
+pub mod of_bags;
+pub mod of_records;
+pub mod operate;
+pub mod pair_up;
+pub mod plain;
 
 ghost use Rattle.std.specs.Prelude.{◌++◌};
 ghost use Rattle.values.specs.Memory.{Space};

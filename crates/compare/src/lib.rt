@@ -335,10 +335,8 @@ pub fn same(bytes: &[u8], base: &[u64], mem: &[u64], a: Value, b: Value, depth: 
     alike(which_first(bytes, base, mem, a, b, depth))
 }
 
-// The same as `which_first`, with a count of the comparisons of data that were asked for, now one more. To ask of two data which comes first, or whether
-// they are the same, is one comparison, however much lies within them: so the count of a match depends on how many things it has, and not on how large
-// they are.
-pub fn which_first_counted(
+// The same as `which_first`, and how many comparisons there were, now one more. What is compared within one is not counted.
+pub fn compare_counted(
     bytes: &[u8],
     base: &[u64],
     mem: &[u64],

@@ -1,4 +1,1 @@
-pub mod Requests
-pub mod Turning
-pub mod TypeTold
-pub mod Answering
+pub mod Refusals

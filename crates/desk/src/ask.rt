@@ -1,35 +1,29 @@
 // Requests are answered from their bytes, with lent memory.
-ghost use Rattle.std.specs.Prelude.{◌≡◌, length};
-ghost use Rattle.query.specs.Promise.{thin};
-ghost use Rattle.desk.specs.Answered.{Answered, answer_of};
+ghost use Rattle.std.specs.Prelude.{◌≡◌, length, MatchResult};
+ghost use Rattle.desk.specs.Answered.{Answered, nothing};
 
 use crate::answer::Answer;
-use crate::check::checked;
-use crate::memory::Desk;
-use asking::asked::ask_of;
-use asking::outcome::Outcome;
-use operators::came::Stop;
+use format::node::Request;
+use format::requests::read_request;
 
-// The answer that an outcome is. A query with a type does not fail, so what stands for failing is never handed on.
-fn answer_of<'a>(outcome: Outcome<'a>) -> Answer<'a>
-    ensures { result ≡ answer_of outcome.entry }
+// Where bytes that were not read as a request cease to be one.
+fn place(read: Result<Request, usize>) -> usize
+    ensures { MatchResult read (λ q. result ≡ 0) (λ p. result ≡ p) }
 {
-    match outcome {
-        Outcome::Is(words, looked) => Answer::Is(words, looked),
-        Outcome::Stopped(Stop::Tired) => Answer::Tired,
-        Outcome::Stopped(Stop::NoRoom) => Answer::NoRoom,
-        Outcome::Stopped(Stop::Wrong) => Answer::NoRoom,
+    match read {
+        Ok(_) => 0,
+        Err(p) => p,
     }
 }
 
-// The answer to the request that the bytes are, for any bytes and any length of lent memory. This desk asks; it does not plan yet.
-pub fn answer<'a>(desk: &mut Desk, bytes: &[u8], lent: &'a mut [u64]) -> Answer<'a>
-    ensures { Answered thin bytes.now (length lent.old) result }
+// The answer to the request that the bytes are. This desk can do no request yet: each is refused.
+pub fn answer(bytes: &[u8], lent: &mut [u64]) -> Answer
+    ensures { Answered nothing bytes.now (length lent.old) result }
 {
-    let passed = checked(&mut desk.memory, &mut desk.guide, bytes);
-    let ask = match passed {
-        Ok(ask) => ask,
-        Err(refusal) => return Answer::Refused(refusal.number, refusal.place),
+    let read = read_request(bytes);
+    let Ok(_request) = read else {
+        return Answer::Refused(1, place(read));
     };
-    answer_of(ask_of(bytes, ask, &desk.guide, &mut desk.marks, lent))
+    let _ = lent.len();
+    Answer::Refused(6, 0)
 }

@@ -1,5 +1,3 @@
 // The desk: the public call.
 pub mod answer;
 pub mod ask;
-mod check;
-pub mod memory;

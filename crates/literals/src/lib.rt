@@ -1,5 +1,5 @@
 // Literals: what a query writes out, numbered and brought into memory once for a request, however often it is asked for.
-mod fill;
+pub mod fill;
 pub mod load;
-mod number;
-mod step;
+pub mod number;
+pub mod step;

@@ -1,6 +1,6 @@
 // What is printed: numbers, texts, data, and the lines that answers are.
-mod datum;
+pub mod datum;
 pub mod line;
-mod number;
-mod text;
+pub mod number;
+pub mod text;
 mod words;

@@ -1,4 +1,4 @@
 // The names of a request, each once and in order, so that a name is a number: its rank.
-mod compare;
+pub mod compare;
 pub mod gather;
 pub mod names;

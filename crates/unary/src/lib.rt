@@ -3,9 +3,9 @@ ghost use Rattle.std.specs.Prelude.{◌++◌};
 ghost use Rattle.values.specs.Memory.{Space};
 ghost use Rattle.operators.specs.Ready.{OneReady, Ones};
 
-mod of_bags;
-mod of_records;
-mod plain;
+pub mod of_bags;
+pub mod of_records;
+pub mod plain;
 
 use crate::of_bags::{counted, flattened, in_a_bag, once, summed};
 use crate::of_records::{dotted, fielded, left_out, projected};

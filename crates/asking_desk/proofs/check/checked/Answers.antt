@@ -2,10 +2,10 @@ use Rattle.std.proofs.Common.{◌≡◌, ℕ, length, sym, refl, ap, ◌∙◌, 
 use Rattle.format.specs.Nodes.{Requested}
 use Rattle.format.specs.declared.node.Request.{Request}
 use Rattle.std.proofs.lemmas.Result.{MatchResult-at_err}
-use Rattle.desk.specs.Checked.{RefusedBy}
-use Rattle.desk.proofs.Requests.{IsToAsk, to_ask_is}
-use Rattle.desk.proofs.Turning.{garbled_refused, plan_refused, too_large, out_of_order, no_type, other_tables}
-use Rattle.desk.proofs.check.checked.Goals as goal
+use Rattle.asking_desk.specs.Checked.{RefusedBy}
+use Rattle.asking_desk.proofs.Requests.{IsToAsk, to_ask_is}
+use Rattle.asking_desk.proofs.Turning.{garbled_refused, plan_refused, too_large, out_of_order, no_type, other_tables}
+use Rattle.asking_desk.proofs.check.checked.Goals as goal
 
 pub returns-in_default : goal.returns-in_default
 returns-in_default c =

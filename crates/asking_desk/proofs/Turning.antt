@@ -13,8 +13,8 @@ use Rattle.format.specs.declared.node.Ask.{Ask}
 use Rattle.format.specs.declared.node.Plan.{Plan}
 use Rattle.format.specs.declared.node.Request.TheVariants as rn
 use Rattle.asking.specs.Passed.{Passed}
-use Rattle.desk.specs.Checked.{RefusedBy, LetThrough}
-use Rattle.desk.proofs.Requests.{IsToAsk}
+use Rattle.asking_desk.specs.Checked.{RefusedBy, LetThrough}
+use Rattle.asking_desk.proofs.Requests.{IsToAsk}
 
 -- the number by the outcomes of the checks
 by_checks : Bool → Bool → Bool → Bool → ℕ

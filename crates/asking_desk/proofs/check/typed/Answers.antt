@@ -1,7 +1,7 @@
 use Rattle.std.proofs.Common.{◌≡◌, sym, arith}
 use Rattle.std.proofs.lemmas.List.{take_rest}
-use Rattle.desk.proofs.TypeTold.{guided, unguided, typed_so}
-use Rattle.desk.proofs.check.typed.Goals as goal
+use Rattle.asking_desk.proofs.TypeTold.{guided, unguided, typed_so}
+use Rattle.asking_desk.proofs.check.typed.Goals as goal
 
 pub returns-in_default : goal.returns-in_default
 returns-in_default c = record {

@@ -2,9 +2,9 @@
 use Rattle.std.specs.Prelude.{◌≡◌, ℕ, Bool, true, false, List, ◌++◌, Some, None, codes, Option}
 use Rattle.query.specs.Promise.{thin}
 use Rattle.printing.specs.Lines.{refused_line, Lines}
-use Rattle.desk.specs.Answered.{Answered}
-use Rattle.desk.specs.declared.answer.Answer.{Answer}
-use Rattle.desk.specs.declared.answer.Answer.TheVariants.{Refused, Is, Tired, NoRoom}
+use Rattle.asking_desk.specs.Answered.{Answered}
+use Rattle.asking_desk.specs.declared.answer.Answer.{Answer}
+use Rattle.asking_desk.specs.declared.answer.Answer.TheVariants.{Refused, Is, Tired, NoRoom}
 
 -- how much was looked at, where that is asked for
 abbrev pub if_asked : Bool → ℕ → Option ℕ

@@ -1,6 +1,6 @@
 // A desk with a request to be made and put to it.
-use desk::memory::{Desk, make_desk};
-use serving::answers::answer_one;
+use asking_desk::memory::{Desk, make_desk};
+use asking_serving::answers::answer_one;
 use serving::fault::Fault;
 use std::alloc::Global;
 use std::io;

@@ -10,7 +10,7 @@ use Rattle.format.specs.declared.node.Ask.{Ask}
 use Rattle.checks.specs.Checks.{SchemaAt, QueryAt}
 use Rattle.guide.specs.Guide.{Guided}
 use Rattle.asking.specs.Passed.{Passed}
-use Rattle.desk.specs.declared.check.Refusal.{Refusal}
+use Rattle.asking_desk.specs.declared.check.Refusal.{Refusal}
 
 -- a query has a type, and the guide is right for it; or it has none
 abbrev pub TypedSo : Schema → Query → List ℕ → Option ℕ → Type 0

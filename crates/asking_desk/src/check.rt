@@ -1,7 +1,7 @@
 // The checks of a request, in the order in which they refuse it.
 ghost use Rattle.std.specs.Prelude.{◌≡◌, ℕ, ◌+◌, ◌≤◌, length, MatchResult};
 ghost use Rattle.typing.specs.Room.{Roomy};
-ghost use Rattle.desk.specs.Checked.{TypeTold, Checked};
+ghost use Rattle.asking_desk.specs.Checked.{TypeTold, Checked};
 
 use checks::{in_order, of_schema, within_limit};
 use format::node::{Ask, Request};

@@ -7,11 +7,11 @@ use Rattle.asking.specs.Passed.{Passed}
 use Rattle.asking.specs.Asked.{Told}
 use Rattle.asking.specs.declared.outcome.Outcome.{Outcome}
 use Rattle.asking.specs.declared.outcome.Outcome.TheVariants as oc
-use Rattle.desk.specs.Checked.{RefusedBy, LetThrough}
-use Rattle.desk.specs.Answered.{Answered, StandsFor, Counted, answer_of}
-use Rattle.desk.specs.declared.answer.Answer.{Answer}
-use Rattle.desk.specs.declared.answer.Answer.TheVariants.{Refused, Is, Tired, NoRoom}
-use Rattle.desk.proofs.Turning.{not_turned}
+use Rattle.asking_desk.specs.Checked.{RefusedBy, LetThrough}
+use Rattle.asking_desk.specs.Answered.{Answered, StandsFor, Counted, answer_of}
+use Rattle.asking_desk.specs.declared.answer.Answer.{Answer}
+use Rattle.asking_desk.specs.declared.answer.Answer.TheVariants.{Refused, Is, Tired, NoRoom}
+use Rattle.asking_desk.proofs.Turning.{not_turned}
 
 pub refused_answer : (xs : List ℕ) (lent n p : ℕ) → RefusedBy xs lent n p → Answered thin xs lent (Refused n p)
 refused_answer xs lent n p r = record {

@@ -12,7 +12,7 @@ use Rattle.guide.specs.Marks.{nesting, Markable, Marked}
 use Rattle.guide.proofs.Sizes.{query_bytes, nesting_parts}
 use Rattle.types.specs.Shapes.{Shape, type_at}
 use Rattle.types.specs.Outcomes.{told}
-use Rattle.desk.specs.Checked.{TypedSo, TypeTold}
+use Rattle.asking_desk.specs.Checked.{TypedSo, TypeTold}
 
 module _ (xs g h : List ℕ) (a : Ask) (q : Query) (at : QueryAt xs a.query_at q) (small : size_q q ≤ 8192) (long : 73728 ≤ length g) where
   markable : (qs : List ℕ) → qs ≡ drop a.query_at xs → Markable qs (length g) 0 8192 q at.stands.rest

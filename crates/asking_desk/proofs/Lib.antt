@@ -1,0 +1,4 @@
+pub mod Requests
+pub mod Turning
+pub mod TypeTold
+pub mod Answering

@@ -1,0 +1,36 @@
+// Tables of a file of requests, loaded into memory and written out again: how many, and how many came out as they stood, byte for byte.
+mod trip;
+
+use serving::fault::Fault;
+use serving::requests::Requests;
+use trip::{Tally, there_and_back};
+
+// So many numbers are lent for loading, and as many for writing.
+const LENT: usize = 1048576;
+
+fn main(rt: HostRuntime) -> Result<(), Fault> {
+    let heap = rt.alloc();
+    let mut requests = Requests::open(&rt, heap, "random.requests")?;
+    let mut memory = Vec::new(heap);
+    memory.resize(LENT, 0)?;
+    let mut written = Vec::new(heap);
+    written.resize(LENT, 0)?;
+    let mut all = Tally { tables: 0, same: 0 };
+    for _ in 0..u64::MAX {
+        if !requests.advance()? {
+            break;
+        }
+        let more = there_and_back(
+            requests.bytes(),
+            memory.as_mut_slice(),
+            written.as_mut_slice(),
+        );
+        all.tables = all.tables.wrapping_add(more.tables);
+        all.same = all.same.wrapping_add(more.same);
+    }
+    let (tables, same) = (all.tables, all.same);
+    match println!(&rt; "{tables} tables, {same} written back as they stood") {
+        Ok(()) => Ok(()),
+        Err(e) => Err(Fault::CannotWrite(e)),
+    }
+}
