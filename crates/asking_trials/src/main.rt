@@ -17,15 +17,23 @@ use serving::fault::Fault;
 use asking_serving::serve;
 use shared::{shared_parts, vast};
 use short::{broken_off, nothing_lent};
+use std::process::ExitCode;
 
-fn main(rt: HostRuntime) -> Result<(), Fault> {
-    serve(&rt)?;
-    reload(&rt)?;
+fn run(rt: &HostRuntime) -> Result<(), Fault> {
+    serve(rt)?;
+    reload(rt)?;
     let mut bench = Bench::new(rt.alloc())?;
-    deep_queries(&rt, &mut bench)?;
-    deep_data(&rt, &mut bench)?;
-    broken_off(&rt, &mut bench)?;
-    shared_parts(&rt, &mut bench)?;
-    vast(&rt, &mut bench)?;
-    nothing_lent(&rt, &mut bench)
+    deep_queries(rt, &mut bench)?;
+    deep_data(rt, &mut bench)?;
+    broken_off(rt, &mut bench)?;
+    shared_parts(rt, &mut bench)?;
+    vast(rt, &mut bench)?;
+    nothing_lent(rt, &mut bench)
+}
+
+fn main(rt: HostRuntime) -> ExitCode {
+    match run(&rt) {
+        Ok(()) => ExitCode::SUCCESS,
+        Err(_fault) => ExitCode::FAILURE,
+    }
 }

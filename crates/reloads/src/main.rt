@@ -3,14 +3,15 @@ mod trip;
 
 use serving::fault::Fault;
 use serving::requests::Requests;
+use std::process::ExitCode;
 use trip::{Tally, there_and_back};
 
 // So many numbers are lent for loading, and as many for writing.
 const LENT: usize = 1048576;
 
-fn main(rt: HostRuntime) -> Result<(), Fault> {
+fn run(rt: &HostRuntime) -> Result<(), Fault> {
     let heap = rt.alloc();
-    let mut requests = Requests::open(&rt, heap, "random.requests")?;
+    let mut requests = Requests::open(rt, heap, "random.requests")?;
     let mut memory = Vec::new(heap);
     memory.resize(LENT, 0)?;
     let mut written = Vec::new(heap);
@@ -29,8 +30,15 @@ fn main(rt: HostRuntime) -> Result<(), Fault> {
         all.same = all.same.wrapping_add(more.same);
     }
     let (tables, same) = (all.tables, all.same);
-    match println!(&rt; "{tables} tables, {same} written back as they stood") {
+    match println!(rt; "{tables} tables, {same} written back as they stood") {
         Ok(()) => Ok(()),
         Err(e) => Err(Fault::CannotWrite(e)),
+    }
+}
+
+fn main(rt: HostRuntime) -> ExitCode {
+    match run(&rt) {
+        Ok(()) => ExitCode::SUCCESS,
+        Err(_fault) => ExitCode::FAILURE,
     }
 }

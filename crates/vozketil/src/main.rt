@@ -1,7 +1,11 @@
 // The program: answers the requests of a file, a line for each.
-use serving::fault::Fault;
 use serving::serve;
+use std::process::ExitCode;
 
-fn main(rt: HostRuntime) -> Result<(), Fault> {
-    serve(&rt)
+// A fault has been told on standard error; what is left of it is the status.
+fn main(rt: HostRuntime) -> ExitCode {
+    match serve(&rt) {
+        Ok(()) => ExitCode::SUCCESS,
+        Err(_fault) => ExitCode::FAILURE,
+    }
 }

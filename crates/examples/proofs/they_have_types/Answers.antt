@@ -6,4 +6,4 @@ use Rattle.examples.proofs.they_have_types.Goals as goal
 
 pub returns : goal.returns
 unfolding some_ty type_of ty_at on_ty elem fields_of get_ty pick same_text type1 type2 if_so as_num code sound is_of bytes both_tys put_ty less_text
-returns c = (refl, refl, refl, refl, refl, refl, refl)
+returns c = record { value = refl; value_2 = refl; value_3 = refl; value_4 = refl; value_5 = refl; value_6 = refl; value_7 = refl }

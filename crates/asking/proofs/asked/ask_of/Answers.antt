@@ -26,7 +26,7 @@ worked_out-requires c =
     let u : LoadedUp c.args.bytes.now p.tables p.query c.args.ask.tables c.load_all.new.marks m c.in-Some.literals
     = subst (λ (z : List ℕ). LoadedUp c.args.bytes.now p.tables p.query c.args.ask.tables c.load_all.new.marks z c.in-Some.literals) c.split_at_mut-base.ensures.value (c.in-Some.ensures.means p) in
     record {
-      space = record { over = omega (arith, c.split_at_mut-base.ensures.front-len); fits = omega arith };
+      space = record { over = omega (arith, c.split_at_mut-base.ensures.front_len); fits = omega arith };
       ready = ready_of c.args.bytes.now c.args.guide.now c.args.ask p c.load_all.new.marks m _ c.in-Some.literals u (sym (take_rest c.args.bytes.now c.args.ask.query_at)) (omega (arith, c.load_all.auto.marks, c.requires.marks));
     }
 

@@ -11,7 +11,7 @@ written-requires c =
 pub returns-in-Ok : goal.returns-in-Ok
 returns-in-Ok c = record {
   means = λ g. out_of_came c.args.bytes.now g.world.rate _ c.args.budget g.used c.args.top (c.args.base.now ++ c.args.mem.now) (c.args.base.now ++ c.work_out.new.mem)
-      c.in-Ok.ensures.kept.long c.in-Ok.branch c.written.result g.held.low (c.in-Ok.ensures.means.means g) c.written.ensures;
+      c.in-Ok.ensures.kept.long c.in-Ok.came c.written.result g.held.low (c.in-Ok.ensures.means.means g) c.written.ensures;
 }
 
 pub returns-in-Err : goal.returns-in-Err
