@@ -8,7 +8,7 @@ use Rattle.values.proofs.Slot.{word_before}
 use Rattle.values.proofs.Frame.{holds_kept}
 use Rattle.operators.specs.declared.came.Came.{Came}
 use Rattle.operators.specs.declared.came.Stop.TheVariants.{NoRoom}
-use Rattle.writing.specs.Writes.{Writes}
+use Rattle.writing.specs.Writes.{WritesAny}
 use Rattle.asking.specs.Outcomes.{WrittenOut}
 use Rattle.asking.specs.declared.outcome.Outcome.TheVariants.{Is, Stopped}
 
@@ -29,14 +29,14 @@ module _ (bs b m f r : List ℕ) (c : Came) (budget : ℕ) (e : m ≡ f ++ r) (o
   cut_holds : (d : Data) (u : Used) → Holds bs (b ++ m) u d c.value → Under u c.top → Holds bs (b ++ f) u d c.value
   cut_holds d u h low = holds_kept bs u d c.value (cut_agree u low) (λ k t. t) h
 
-  pub not_written : (s : List ℕ) → Writes bs (b ++ f) c.value r s None → WrittenOut bs (b ++ m) c budget (Stopped NoRoom)
+  pub not_written : (s : List ℕ) → WritesAny bs (b ++ f) c.value r s None → WrittenOut bs (b ++ m) c budget (Stopped NoRoom)
   not_written s w = record {
     means = λ d u h low.
         let x : length r < length (write_data d) = w.means d u (cut_holds d u h low) (cut_under u low) in
         omega (arith, x, length-append b m, length-append f r, ap (λ (z : List ℕ). length z) e, cut_long, length-append b f);
   }
 
-  pub is_written : (s : List ℕ) (n : ℕ) (ws : Bor (List ℕ)) → c.left ≤ budget → ws.now ≡ take n s → Writes bs (b ++ f) c.value r s (Some n) → WrittenOut bs (b ++ m) c budget (Is ws (budget - c.left))
+  pub is_written : (s : List ℕ) (n : ℕ) (ws : Bor (List ℕ)) → c.left ≤ budget → ws.now ≡ take n s → WritesAny bs (b ++ f) c.value r s (Some n) → WrittenOut bs (b ++ m) c budget (Is ws (budget - c.left))
   is_written s n ws paid i w = record {
     means = λ d u h low. (i ∙ (w.means d u (cut_holds d u h low) (cut_under u low)).is, omega arith);
   }

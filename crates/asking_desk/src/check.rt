@@ -1,6 +1,6 @@
 // The checks of a request, in the order in which they refuse it.
 ghost use Rattle.std.specs.Prelude.{◌≡◌, ℕ, ◌+◌, ◌≤◌, length, MatchResult};
-ghost use Rattle.typing.specs.Room.{Roomy};
+ghost use Rattle.typing.specs.Room.{Spacious};
 ghost use Rattle.asking_desk.specs.Checked.{TypeTold, Checked};
 
 use checks::{in_order, of_schema, within_limit};
@@ -29,9 +29,9 @@ fn place(read: Result<Request, usize>) -> usize
 
 // The number of the query's type in the memory's table, with the guide to the query written; none where it has no type.
 fn typed(memory: &mut Memory, guide: &mut [u32], bytes: &[u8], ask: Ask) -> Option<u32>
-    requires roomy { Roomy memory.old }
+    requires roomy { Spacious memory.old }
     requires long { 73728 ≤ length guide.old }
-    ensures roomy { Roomy memory.new }
+    ensures roomy { Spacious memory.new }
     ensures told { TypeTold bytes.now guide.new ask result }
 {
     let from = ask.query_at;
@@ -46,9 +46,9 @@ fn typed(memory: &mut Memory, guide: &mut [u32], bytes: &[u8], ask: Ask) -> Opti
 
 // The request to ask that the bytes are, once it has passed every check; or the refusal by the first that it does not pass.
 pub fn checked(memory: &mut Memory, guide: &mut [u32], bytes: &[u8]) -> Result<Ask, Refusal>
-    requires roomy { Roomy memory.old }
+    requires roomy { Spacious memory.old }
     requires long { 73728 ≤ length guide.old }
-    ensures roomy { Roomy memory.new }
+    ensures roomy { Spacious memory.new }
     ensures told { Checked bytes.now guide.new result }
 {
     let read = read_request(bytes);

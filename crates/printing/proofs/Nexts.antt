@@ -6,7 +6,7 @@ use Rattle.format.specs.Wire.{names, write_data, write_datas, write_values, Fits
 use Rattle.printing.specs.declared.datum.Whole.{Whole}
 use Rattle.printing.specs.declared.datum.Whole.TheVariants.{Bag, Record, Side}
 use Rattle.printing.specs.declared.datum.Open.{Open}
-use Rattle.printing.specs.Texts.{quoted}
+use Rattle.printing.specs.Texts.{bytes_quoted}
 use Rattle.printing.specs.Datums.{comma, text_of, things_text, fields_text}
 use Rattle.printing.specs.Opens.{closing_of, ThingsLeft, FieldsLeft, LeftOf, Stands, all_closed, one_open, Still, TextShown, Next, Fronted, Between}
 
@@ -56,7 +56,7 @@ record FirstField (words : List ℕ) (at left : ℕ) (begun : Bool) (bytes all :
   after : List ℕ
   names_are : drop at words ≡ name.write n ++ (writes name (names fs) ++ after)
   bytes_are : bytes ≡ write_data d ++ write_values fs
-  text_is : all ≡ (comma begun ++ (quoted n ++ (58 ∷ (text_of d ++ fields_text true fs)))) ++ (125 ∷ [])
+  text_is : all ≡ (comma begun ++ (bytes_quoted n ++ (58 ∷ (text_of d ++ fields_text true fs)))) ++ (125 ∷ [])
 
 of_fields : (words : List ℕ) (at left : ℕ) (begun : Bool) (bytes all : List ℕ) (fs : Fields) (after : List ℕ)
     → FitsValues fs
@@ -101,10 +101,10 @@ next_fields words at end left begun bytes all out out₁ out₂ out₃ l one two
     let g = first_field words at left begun bytes all l in
     let s = two.is g.n (writes name (names g.fs) ++ g.after) g.name_fits g.names_are in
     let rest = fields_text true g.fs ++ (125 ∷ []) in
-    let shown : out₃ ≡ out ++ (comma begun ++ (quoted g.n ++ (58 ∷ []))) =
-    three ∙ ap (λ (v : List ℕ). v ++ (58 ∷ [])) (s.1 ∙ ap (λ (v : List ℕ). v ++ quoted g.n) one)
-    ∙ append_assoc (out ++ comma begun) (quoted g.n) (58 ∷ [])
-    ∙ append_assoc out (comma begun) (quoted g.n ++ (58 ∷ [])) in
+    let shown : out₃ ≡ out ++ (comma begun ++ (bytes_quoted g.n ++ (58 ∷ []))) =
+    three ∙ ap (λ (v : List ℕ). v ++ (58 ∷ [])) (s.1 ∙ ap (λ (v : List ℕ). v ++ bytes_quoted g.n) one)
+    ∙ append_assoc (out ++ comma begun) (bytes_quoted g.n) (58 ∷ [])
+    ∙ append_assoc out (comma begun) (bytes_quoted g.n ++ (58 ∷ [])) in
     record {
       d = g.d;
       fits = g.fits;
@@ -114,8 +114,8 @@ next_fields words at end left begun bytes all out out₁ out₂ out₃ l one two
       bytes_are = g.bytes_are;
       text_is =
           ap (λ (v : List ℕ). v ++ (text_of g.d ++ rest)) shown
-          ∙ append_assoc out (comma begun ++ (quoted g.n ++ (58 ∷ []))) (text_of g.d ++ rest)
-          ∙ ap (λ (v : List ℕ). out ++ v) (sym (regroup (comma begun) (quoted g.n) (text_of g.d) (fields_text true g.fs) (125 ∷ [])) ∙ sym g.text_is);
+          ∙ append_assoc out (comma begun ++ (bytes_quoted g.n ++ (58 ∷ []))) (text_of g.d ++ rest)
+          ∙ ap (λ (v : List ℕ). out ++ v) (sym (regroup (comma begun) (bytes_quoted g.n) (text_of g.d) (fields_text true g.fs) (125 ∷ [])) ∙ sym g.text_is);
     }
 
 -- what the code appends in front of the next part

@@ -7,7 +7,8 @@ use Rattle.format.specs.Bytes.{length_le}
 use Rattle.printing.specs.declared.datum.Whole.TheVariants.{Bag, Record}
 use Rattle.printing.specs.declared.datum.Open.{Open}
 use Rattle.printing.specs.declared.words.Span.{Span}
-use Rattle.printing.specs.Texts.{quoted, low_bytes}
+use Rattle.printing.specs.Texts.{quoted, bytes_quoted, low_bytes}
+use Rattle.printing.proofs.Escapes.{quoted_low}
 use Rattle.printing.specs.Words.{value_at, NumberAt, NameAt, PastNames}
 use Rattle.printing.specs.Opens.{Opened, NumberShown, TextShown, BagBegun, RecordBegun}
 use Rattle.printing.proofs.Values.{number_there, within_there, after_there, low_same}
@@ -40,7 +41,7 @@ module _ (words : List ℕ) (at : ℕ) {out out' : List ℕ} where
   pub number_missing : length words < at + 8 → NumberShown words at out out' None
   number_missing h = record { is = λ m rest _ e. too_few words at 8 (omega arith) h m rest e }
 
-  pub text_shown : (s : Span) → NameAt words at s → out' ≡ out ++ quoted (low_bytes (take (s.to - s.from) (drop s.from words))) → TextShown words at out out' (Some s.to)
+  pub text_shown : (s : Span) → NameAt words at s → out' ≡ out ++ quoted (take (s.to - s.from) (drop s.from words)) → TextShown words at out out' (Some s.to)
   text_shown s r o = record {
     is = λ t rest f e.
         let n = name_there words at t rest f e in
@@ -49,7 +50,7 @@ module _ (words : List ℕ) (at : ℕ) {out out' : List ℕ} where
         let long : s.to - s.from ≡ length t = omega arith in
         let part : take (s.to - s.from) (drop s.from words) ≡ t = ap₂ (λ (k : ℕ) (i : ℕ). take k (drop i words)) long from_is ∙ n.is in (
           ap (λ (k : ℕ). drop k words) to_is ∙ n.after,
-          o ∙ ap (λ (v : List ℕ). out ++ quoted v) (ap low_bytes part ∙ low_same t f.1),
+          o ∙ ap (λ (v : List ℕ). out ++ v) (quoted_low (take (s.to - s.from) (drop s.from words)) ∙ ap bytes_quoted (ap low_bytes part ∙ low_same t f.1)),
         );
   }
 

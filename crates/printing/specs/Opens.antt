@@ -6,7 +6,7 @@ use Rattle.format.specs.Wire.{names, write_names, FitNames, write_data, write_da
 use Rattle.printing.specs.declared.datum.Whole.{Whole}
 use Rattle.printing.specs.declared.datum.Whole.TheVariants.{Bag, Record, Side}
 use Rattle.printing.specs.declared.datum.Open.{Open}
-use Rattle.printing.specs.Texts.{quoted}
+use Rattle.printing.specs.Texts.{bytes_quoted}
 use Rattle.printing.specs.Datums.{text_of, things_text, fields_text}
 
 -- the byte that closes a whole
@@ -77,7 +77,7 @@ pub record NumberShown (words : List ℕ) (at : ℕ) (out out' : List ℕ) (r : 
 
 -- a text stood there: it was appended
 pub record TextShown (words : List ℕ) (at : ℕ) (out out' : List ℕ) (r : Option ℕ) : Type 0 where
-  pub is : (t rest : List ℕ) → name.Fits t → drop at words ≡ name.write t ++ rest → IsSomeAnd r (λ e. (drop e words ≡ rest) × (out' ≡ out ++ quoted t))
+  pub is : (t rest : List ℕ) → name.Fits t → drop at words ≡ name.write t ++ rest → IsSomeAnd r (λ e. (drop e words ≡ rest) × (out' ≡ out ++ bytes_quoted t))
 
 -- a count stood there: a bag of so many things was opened
 pub record BagBegun (words : List ℕ) (at : ℕ) (os os' : List Open) (out out' : List ℕ) (r : Option ℕ) : Type 0 where

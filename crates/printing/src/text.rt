@@ -1,6 +1,6 @@
 // Texts in double quotes.
 ghost use Rattle.std.specs.Prelude.{◌≡◌, ◌<◌, ◌≤◌, ◌++◌, vec_len, OnOk};
-ghost use Rattle.printing.specs.Texts.{digit_of, escaped, quoted, low_bytes};
+ghost use Rattle.printing.specs.Texts.{digit_of, escaped, quoted};
 
 use std::alloc::AllocError;
 
@@ -34,7 +34,7 @@ fn show_byte(byte: u8, out: &mut Vec<u8>) -> Result<(), AllocError>
 
 // Appends the text whose bytes the words are, a byte to a word.
 pub fn show_text(words: &[u64], out: &mut Vec<u8>) -> Result<(), AllocError>
-    ensures is { OnOk result (out.new.items ≡ out.old.items ++ quoted (low_bytes words.now)) }
+    ensures is { OnOk result (out.new.items ≡ out.old.items ++ quoted words.now) }
     ensures grows { vec_len out.old ≤ vec_len out.new }
 {
     out.push(b'"')?;

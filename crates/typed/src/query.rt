@@ -1,7 +1,7 @@
 // The type of a request's query, in memory of the desk's own.
 ghost use Rattle.std.specs.Prelude.{◌≡◌, ℕ, ◌≤◌, List, [], ◌∷◌, length, drop, vec_capacity};
 ghost use Rattle.types.specs.Outcomes.{Tidy};
-ghost use Rattle.typing.specs.Room.{Roomy};
+ghost use Rattle.typing.specs.Room.{Spacious};
 ghost use Rattle.typed.specs.Told.{QueryTyped};
 
 use crate::scene::Lent;
@@ -49,8 +49,8 @@ pub fn query_type(
     types: usize,
     query_at: usize,
 ) -> Option<u32>
-    requires roomy { Roomy memory.old }
-    ensures roomy { Roomy memory.new }
+    requires roomy { Spacious memory.old }
+    ensures roomy { Spacious memory.new }
     ensures told { QueryTyped bytes.now guide.now memory.new schema_at types query_at result }
 {
     request_names(bytes, &mut memory.names, schema_at, types, query_at);

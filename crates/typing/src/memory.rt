@@ -1,6 +1,6 @@
 // Memory of the desk's own, made once and used again for each request: what there is room for is enough for any query within the limit of parts.
 ghost use Rattle.std.specs.Prelude.{ℕ, ◌≤◌, IfOk};
-ghost use Rattle.typing.specs.Room.{Roomy};
+ghost use Rattle.typing.specs.Room.{Roomy, Spacious};
 
 use crate::work::Work;
 use ranks::names::Names;
@@ -18,7 +18,8 @@ pub struct Memory {
 
 // About 135 megabytes are reserved; no more of them are touched than a query needs.
 pub fn new(heap: Global) -> Result<Memory, AllocError>
-    ensures { IfOk result (λ m. Roomy m) }
+    ensures roomy { IfOk result (λ m. Roomy m) }
+    ensures spacious { IfOk result (λ m. Spacious m) }
 {
     let places = Vec::with_capacity(heap, 8200)?;
     let entries = Vec::with_capacity(heap, 16400)?;

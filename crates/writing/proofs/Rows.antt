@@ -11,7 +11,7 @@ use Rattle.values.specs.declared.value.Field.{Field}
 use Rattle.values.specs.declared.value.Value.{Value}
 use Rattle.values.specs.declared.value.Value.TheVariants.{Bag, Record}
 use Rattle.writing.specs.Puts.{BeginsWith, Put, PutsName}
-use Rattle.writing.specs.Writes.{Writes, WritesNames}
+use Rattle.writing.specs.Writes.{WritesAny, WritesNames}
 use Rattle.writing.proofs.Fronts.{then_put, then_none, none_first}
 use Rattle.writing.proofs.Views.{Held, held, many_things, many_fields, in_reach, next_slots, next_fields, First, first, nothing_left, FirstField, first_field, no_fields_left}
 
@@ -50,14 +50,14 @@ pub record RecordThere (bs m : List ℕ) (p : Place) : Type 0 where
   pub lie : HoldsFields bs m used fields p.start p.count
   pub low : Under used (length m)
 
-on_bag : (bs m : List ℕ) (p : Place) (was now : List ℕ) (r : Option ℕ) → ((g : BagThere bs m p) → Put (write_data (bag g.things)) was now r) → Writes bs m (Bag p) was now r
+on_bag : (bs m : List ℕ) (p : Place) (was now : List ℕ) (r : Option ℕ) → ((g : BagThere bs m p) → Put (write_data (bag g.things)) was now r) → WritesAny bs m (Bag p) was now r
 on_bag bs m p was now r f = record {
   means = λ d u h low.
       let x = held bs m u d (Bag p) h in
       subst (λ v. Put (write_data v) was now r) (sym x.1) (f (record { things = x.0; used = u; run = x.2; lie = x.3; low = low }));
 }
 
-on_record : (bs m : List ℕ) (p : Place) (was now : List ℕ) (r : Option ℕ) → ((g : RecordThere bs m p) → Put (write_data (rec g.fields)) was now r) → Writes bs m (Record p) was now r
+on_record : (bs m : List ℕ) (p : Place) (was now : List ℕ) (r : Option ℕ) → ((g : RecordThere bs m p) → Put (write_data (rec g.fields)) was now r) → WritesAny bs m (Record p) was now r
 on_record bs m p was now r f = record {
   means = λ d u h low.
       let x = held bs m u d (Record p) h in
@@ -70,7 +70,7 @@ module _ (bs m : List ℕ) (p : Place) where
   unfolding write_data
   bag_bytes g = ap (λ k. 5 ∷ (le 4 k ++ write_datas g.things)) (sym (many_things bs m g.used g.things p.start p.count g.lie))
 
-  pub bag_none : (was now : List ℕ) → length was < length (5 ∷ le 4 p.count) → Writes bs m (Bag p) was now None
+  pub bag_none : (was now : List ℕ) → length was < length (5 ∷ le 4 p.count) → WritesAny bs m (Bag p) was now None
   bag_none was now l = on_bag bs m p was now None (λ g. subst (λ v. length was < length v) (bag_bytes g) (none_first (5 ∷ le 4 p.count) (write_datas g.things) was l))
 
   pub record BagGoing (g : BagThere bs m p) (now : List ℕ) (i n at : ℕ) : Type 0 where
@@ -102,13 +102,13 @@ module _ (bs m : List ℕ) (p : Place) where
   }
 
   module _ (was now : List ℕ) (i n at : ℕ) (t : BagTurn was now i n at) where
-    pub bag_whole : i ≡ p.count → Writes bs m (Bag p) was now (Some n)
+    pub bag_whole : i ≡ p.count → WritesAny bs m (Bag p) was now (Some n)
     bag_whole e = on_bag bs m p was now (Some n) (λ g.
         let w = t.going g in
         whole was now n t.long t.within (write_data (bag g.things)) (write_datas w.to_come) w.written (nothing_left bs m g.used w.to_come at (p.count - i) (omega arith) w.lie))
 
     module _ (lt : i < p.count) where
-      pub bag_outside : (now' : List ℕ) → length m < at + 3 → Writes bs m (Bag p) was now' None
+      pub bag_outside : (now' : List ℕ) → length m < at + 3 → WritesAny bs m (Bag p) was now' None
       bag_outside now' l = on_bag bs m p was now' None (λ g. let w = t.going g in absurd (let z : ⊥ = omega (arith, in_reach bs m g.used at (p.count - i) 3 (omega arith) (omega arith) w.run (omega arith) g.low) in z))
 
       bag_next : (g : BagThere bs m p) → First bs m g.used (t.going g).to_come at (p.count - i)
@@ -118,14 +118,14 @@ module _ (bs m : List ℕ) (p : Place) where
       bag_split g = ap (λ v. take n now ++ v) (sym (bag_next g).written) ∙ (t.going g).written
 
       module _ (v : Value) (q : v ≡ loaded m at) (part : List ℕ) where
-        bag_item : (g : BagThere bs m p) (r : Option ℕ) → Writes bs m v (take (length now - n) (drop n now)) part r → Put (write_data (bag_next g).item) (take (length now - n) (drop n now)) part r
+        bag_item : (g : BagThere bs m p) (r : Option ℕ) → WritesAny bs m v (take (length now - n) (drop n now)) part r → Put (write_data (bag_next g).item) (take (length now - n) (drop n now)) part r
         bag_item g r f = let x = bag_next g in f.means x.item g.used (subst (λ y. Holds bs m g.used x.item y) (sym q) x.holds) g.low
 
-        pub bag_stop : (now' : List ℕ) → Writes bs m v (take (length now - n) (drop n now)) part None → Writes bs m (Bag p) was now' None
+        pub bag_stop : (now' : List ℕ) → WritesAny bs m v (take (length now - n) (drop n now)) part None → WritesAny bs m (Bag p) was now' None
         bag_stop now' f = on_bag bs m p was now' None (λ g.
             stops was now n t.long t.within (write_data (bag g.things)) (write_data (bag_next g).item) (write_datas (bag_next g).others) part (bag_split g) (bag_item g None f))
 
-        pub bag_turned : (k e : ℕ) → length part ≡ length (take (length now - n) (drop n now)) → e ≤ length (take (length now - n) (drop n now)) → length (put_mid n k now part) ≡ length now → Writes bs m v (take (length now - n) (drop n now)) part (Some e)
+        pub bag_turned : (k e : ℕ) → length part ≡ length (take (length now - n) (drop n now)) → e ≤ length (take (length now - n) (drop n now)) → length (put_mid n k now part) ≡ length now → WritesAny bs m v (take (length now - n) (drop n now)) part (Some e)
             → BagTurn was (put_mid n k now part) (i + 1) (n + e) (at + 3)
         bag_turned k e lp lq same f = record {
           some = omega (arith, t.some);
@@ -222,7 +222,7 @@ module _ (bs m : List ℕ) (p : Place) where
       ap (λ k. 6 ∷ (le 4 k ++ (writes name ns ++ write_values g.fields))) (sym (many_fields bs m g.used g.fields p.start p.count g.lie))
       ∙ ap (λ v. 6 ∷ v) (sym (append_assoc (le 4 (length ns)) (writes name ns) (write_values g.fields)))
 
-  pub record_none : (was now : List ℕ) → length was < length (6 ∷ le 4 p.count) → Writes bs m (Record p) was now None
+  pub record_none : (was now : List ℕ) → length was < length (6 ∷ le 4 p.count) → WritesAny bs m (Record p) was now None
   record_none was now l = on_record bs m p was now None (λ g.
       subst (λ v. length was < length v) (record_head g) (none_first (6 ∷ le 4 p.count) (writes name (names g.fields) ++ write_values g.fields) was l))
 
@@ -243,7 +243,7 @@ module _ (bs m : List ℕ) (p : Place) where
     pub going : (g : RecordThere bs m p) → RecordGoing g now i n at
 
   module _ (was b : List ℕ) (n : ℕ) (long : length b ≡ length was) (f : BeginsWith (6 ∷ le 4 p.count) was b n) (part : List ℕ) where
-    pub record_unnamed : (now : List ℕ) → WritesNames bs m p (take (length b - n) (drop n b)) part None → Writes bs m (Record p) was now None
+    pub record_unnamed : (now : List ℕ) → WritesNames bs m p (take (length b - n) (drop n b)) part None → WritesAny bs m (Record p) was now None
     record_unnamed now h = on_record bs m p was now None (λ g.
         let ns = writes name (names g.fields) in
         let z = then_none (6 ∷ le 4 p.count) ns was b part n long f (said_names part _ None h g) in
@@ -268,13 +268,13 @@ module _ (bs m : List ℕ) (p : Place) where
     }
 
   module _ (was now : List ℕ) (i n at : ℕ) (t : RecordTurn was now i n at) where
-    pub record_whole : i ≡ p.count → Writes bs m (Record p) was now (Some n)
+    pub record_whole : i ≡ p.count → WritesAny bs m (Record p) was now (Some n)
     record_whole e = on_record bs m p was now (Some n) (λ g.
         let w = t.going g in
         whole was now n t.long t.within (write_data (rec g.fields)) (write_values w.to_come) w.written (no_fields_left bs m g.used w.to_come at (p.count - i) (omega arith) w.lie).0)
 
     module _ (lt : i < p.count) where
-      pub record_outside : (now' : List ℕ) → length m < at + 5 → Writes bs m (Record p) was now' None
+      pub record_outside : (now' : List ℕ) → length m < at + 5 → WritesAny bs m (Record p) was now' None
       record_outside now' l = on_record bs m p was now' None (λ g. let w = t.going g in absurd (let z : ⊥ = omega (arith, in_reach bs m g.used at (p.count - i) 5 (omega arith) (omega arith) w.run (omega arith) g.low) in z))
 
       module _ (f : Field) (q : f ≡ loaded_field m at) (part : List ℕ) where
@@ -284,14 +284,14 @@ module _ (bs m : List ℕ) (p : Place) where
         record_split : (g : RecordThere bs m p) → take n now ++ (write_data (record_next g).item ++ write_values (record_next g).others) ≡ write_data (rec g.fields)
         record_split g = ap (λ v. take n now ++ v) (sym (record_next g).written) ∙ (t.going g).written
 
-        record_item : (g : RecordThere bs m p) (r : Option ℕ) → Writes bs m f.value (take (length now - n) (drop n now)) part r → Put (write_data (record_next g).item) (take (length now - n) (drop n now)) part r
+        record_item : (g : RecordThere bs m p) (r : Option ℕ) → WritesAny bs m f.value (take (length now - n) (drop n now)) part r → Put (write_data (record_next g).item) (take (length now - n) (drop n now)) part r
         record_item g r h = let x = record_next g in h.means x.item g.used x.holds g.low
 
-        pub record_stop : (now' : List ℕ) → Writes bs m f.value (take (length now - n) (drop n now)) part None → Writes bs m (Record p) was now' None
+        pub record_stop : (now' : List ℕ) → WritesAny bs m f.value (take (length now - n) (drop n now)) part None → WritesAny bs m (Record p) was now' None
         record_stop now' h = on_record bs m p was now' None (λ g.
             stops was now n t.long t.within (write_data (rec g.fields)) (write_data (record_next g).item) (write_values (record_next g).others) part (record_split g) (record_item g None h))
 
-        pub record_turned : (k e : ℕ) → length part ≡ length (take (length now - n) (drop n now)) → e ≤ length (take (length now - n) (drop n now)) → length (put_mid n k now part) ≡ length now → Writes bs m f.value (take (length now - n) (drop n now)) part (Some e)
+        pub record_turned : (k e : ℕ) → length part ≡ length (take (length now - n) (drop n now)) → e ≤ length (take (length now - n) (drop n now)) → length (put_mid n k now part) ≡ length now → WritesAny bs m f.value (take (length now - n) (drop n now)) part (Some e)
             → RecordTurn was (put_mid n k now part) (i + 1) (n + e) (at + 5)
         record_turned k e lp lq same h = record {
           some = omega (arith, t.some);
@@ -314,7 +314,7 @@ put_long : (vs a b now : List ℕ) (r : Option ℕ) → length a ≡ length b �
 put_long vs a b now (Some n) l f = record { end = f.end; within = omega (arith, f.within); is = f.is }
 put_long vs a b now None l f = omega (arith, f)
 
-pub writes_long : (bs m : List ℕ) (v : Value) (a b now : List ℕ) (r : Option ℕ) → length a ≡ length b → Writes bs m v a now r → Writes bs m v b now r
+pub writes_long : (bs m : List ℕ) (v : Value) (a b now : List ℕ) (r : Option ℕ) → length a ≡ length b → WritesAny bs m v a now r → WritesAny bs m v b now r
 writes_long bs m v a b now r l f = record { means = λ d u h low. put_long (write_data d) a b now r l (f.means d u h low) }
 
 pub bag_long : (bs m : List ℕ) (p : Place) (a b now : List ℕ) (i n at : ℕ) → length a ≡ length b → BagTurn bs m p a now i n at → BagTurn bs m p b now i n at

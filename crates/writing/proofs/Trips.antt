@@ -21,4 +21,4 @@ round_trip bs at ty depth top m l was now r g i f w =
     let c = f.means g in
     let low : Under c.now_used l.top = under_grown g.low c.grown i.above in
     let high : Under c.now_used (length m) = record { low = λ k t. omega (arith, low.low k t, i.within) } in
-    back bs at g.datum g.stands.rest l.length was now r g.stands.is c.long (w.means g.datum c.now_used c.holds high)
+    back bs at g.datum g.stands.rest l.length was now r g.stands.is c.long (w.means g.datum c.now_used c.holds high g.fits)

@@ -2,7 +2,7 @@
 use Rattle.std.specs.Prelude.{◌≡◌, ℕ, ◌+◌, ◌*◌, ◌<◌, ◌≤◌, List, ◌++◌, length, take, Option}
 use Rattle.query.specs.Data.{Data, Fields}
 use Rattle.format.specs.Coding.{name, writes}
-use Rattle.format.specs.Wire.{names, write_data}
+use Rattle.format.specs.Wire.{names, write_data, FitsData}
 use Rattle.values.specs.Memory.{Used, Under, Run, Holds, HoldsFields}
 use Rattle.values.specs.declared.value.Place.{Place}
 use Rattle.values.specs.declared.value.Value.{Value}
@@ -10,6 +10,10 @@ use Rattle.writing.specs.Puts.{Put}
 
 -- whatever the value stands for in memory, that was written at the front, or there was no room for it
 pub record Writes (bs m : List ℕ) (v : Value) (was now : List ℕ) (r : Option ℕ) : Type 0 where
+  pub means : (d : Data) (u : Used) → Holds bs m u d v → Under u (length m) → FitsData d → Put (write_data d) was now r
+
+-- the same of any datum, also of one whose counts the format has no room for
+pub record WritesAny (bs m : List ℕ) (v : Value) (was now : List ℕ) (r : Option ℕ) : Type 0 where
   pub means : (d : Data) (u : Used) → Holds bs m u d v → Under u (length m) → Put (write_data d) was now r
 
 -- the same of the names of fields that lie at a place

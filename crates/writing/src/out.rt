@@ -4,7 +4,7 @@ ghost use Rattle.std.specs.Prelude.{◌≡◌, ℕ, List, ◌++◌};
 ghost use Rattle.format.specs.Wire.{truth_tag};
 ghost use Rattle.values.specs.declared.value.Value.TheVariants as vs;
 ghost use Rattle.writing.specs.Puts.{Within};
-ghost use Rattle.writing.specs.Writes.{Writes, WritesNames};
+ghost use Rattle.writing.specs.Writes.{Writes, WritesAny, WritesNames};
 
 use crate::put::{put_name, put_tagged};
 use crate::read::{field, slot};
@@ -17,7 +17,7 @@ fn truth_tag(b: bool) -> u64
     if b { 3 } else { 2 }
 }
 
-// Writes the datum that a value stands for, and says in how many numbers; nothing where there is no room for it.
+// WritesAny the datum that a value stands for, and says in how many numbers; nothing where there is no room for it.
 #[cycle(write_bag_write_left_write_out_write_record_write_right)]
 pub fn write_out(
     bytes: &[u8],
@@ -28,6 +28,7 @@ pub fn write_out(
 ) -> Option<usize>
     ensures within { Within out.old result }
     ensures means { Writes bytes.now (base.now ++ mem.now) value out.old out.new result }
+    ensures any { WritesAny bytes.now (base.now ++ mem.now) value out.old out.new result }
 {
     match value {
         Value::Nothing => put_tagged(out, 0, 0, 0),
@@ -44,7 +45,7 @@ pub fn write_out(
 // A text, which stays in the request's bytes.
 fn write_text(bytes: &[u8], p: Place, out: &mut [u64]) -> Option<usize>
     ensures within { Within out.old result }
-    ensures means { (m : List ℕ) → Writes bytes.now m (vs.Text p) out.old out.new result }
+    ensures means { (m : List ℕ) → WritesAny bytes.now m (vs.Text p) out.old out.new result }
 {
     let n = put_tagged(out, 4, 0, 0)?;
     let e = put_name(bytes, p, &mut out[n..])?;
@@ -55,7 +56,7 @@ fn write_text(bytes: &[u8], p: Place, out: &mut [u64]) -> Option<usize>
 #[cycle(write_bag_write_left_write_out_write_record_write_right)]
 fn write_bag(bytes: &[u8], base: &[u64], mem: &[u64], p: Place, out: &mut [u64]) -> Option<usize>
     ensures within { Within out.old result }
-    ensures means { Writes bytes.now (base.now ++ mem.now) (vs.Bag p) out.old out.new result }
+    ensures means { WritesAny bytes.now (base.now ++ mem.now) (vs.Bag p) out.old out.new result }
 {
     let mut n = put_tagged(out, 5, 4, p.count as u64)?;
     let mut at = p.start;
@@ -88,7 +89,7 @@ fn write_names(bytes: &[u8], base: &[u64], mem: &[u64], p: Place, out: &mut [u64
 #[cycle(write_bag_write_left_write_out_write_record_write_right)]
 fn write_record(bytes: &[u8], base: &[u64], mem: &[u64], p: Place, out: &mut [u64]) -> Option<usize>
     ensures within { Within out.old result }
-    ensures means { Writes bytes.now (base.now ++ mem.now) (vs.Record p) out.old out.new result }
+    ensures means { WritesAny bytes.now (base.now ++ mem.now) (vs.Record p) out.old out.new result }
 {
     let mut n = put_tagged(out, 6, 4, p.count as u64)?;
     let named = write_names(bytes, base, mem, p, &mut out[n..])?;
@@ -107,7 +108,7 @@ fn write_record(bytes: &[u8], base: &[u64], mem: &[u64], p: Place, out: &mut [u6
 #[cycle(write_bag_write_left_write_out_write_record_write_right)]
 fn write_left(bytes: &[u8], base: &[u64], mem: &[u64], at: usize, out: &mut [u64]) -> Option<usize>
     ensures within { Within out.old result }
-    ensures means { Writes bytes.now (base.now ++ mem.now) (vs.Left at) out.old out.new result }
+    ensures means { WritesAny bytes.now (base.now ++ mem.now) (vs.Left at) out.old out.new result }
 {
     let n = put_tagged(out, 7, 0, 0)?;
     let v = slot(base, mem, at)?;
@@ -119,7 +120,7 @@ fn write_left(bytes: &[u8], base: &[u64], mem: &[u64], at: usize, out: &mut [u64
 #[cycle(write_bag_write_left_write_out_write_record_write_right)]
 fn write_right(bytes: &[u8], base: &[u64], mem: &[u64], at: usize, out: &mut [u64]) -> Option<usize>
     ensures within { Within out.old result }
-    ensures means { Writes bytes.now (base.now ++ mem.now) (vs.Right at) out.old out.new result }
+    ensures means { WritesAny bytes.now (base.now ++ mem.now) (vs.Right at) out.old out.new result }
 {
     let n = put_tagged(out, 8, 0, 0)?;
     let v = slot(base, mem, at)?;

@@ -10,7 +10,7 @@ load-requires c = record {
   within = c.if-schema_at-bytes.false;
   tidy = c.begin.ensures.tidy;
   same = counted c.args.bytes.now c.request_names.new.names _ _ c.begin.ensures.names c.len.ensures;
-  fit = c.requires.roomy.work;
+  fit = c.requires.roomy.roomy.work;
 }
 
 pub returns-in_default : goal.returns-in_default
@@ -18,7 +18,7 @@ returns-in_default c =
     let d = c.in_default.ensures in
     let b = c.begin.ensures in
     record {
-      roomy = record { places = c.request_names.ensures.listed.cap; entries = d.grew.tidy.entries; fields = d.grew.tidy.fields; work = d.fit; schema = c.requires.roomy.schema };
+      roomy = record { roomy = record { places = c.request_names.ensures.listed.cap; entries = d.grew.tidy.entries; fields = d.grew.tidy.fields; work = d.fit }; schema = c.requires.roomy.schema };
       told = record {
         tells = λ ss q s k g l o. absurd (schema_unsound c.args.bytes.now c.args.guide.now _ c.begin.new.table c.load.new.table _ c.args.schema_at c.args.types c.args.query_at c.request_names.ensures b.entries b.fields
             (counted c.args.bytes.now c.request_names.new.names _ _ c.begin.ensures.names c.len.ensures) d ss q s k l o);
@@ -52,7 +52,7 @@ returns c =
     let n = counted c.args.bytes.now c.request_names.new.names _ _ c.begin.ensures.names c.len.ensures in
     let e = c.as_slice.ensures.value ∙ c.copy.ensures.is ∙ ap (λ (z : List ℕ). drop c.in-Some.top z) c.deref.ensures.value in
     record {
-      roomy = record { places = c.request_names.ensures.listed.cap; entries = w.grew.tidy.entries; fields = w.grew.tidy.fields; work = w.fit; schema = c.copy.ensures.cap };
+      roomy = record { roomy = record { places = c.request_names.ensures.listed.cap; entries = w.grew.tidy.entries; fields = w.grew.tidy.fields; work = w.fit }; schema = c.copy.ensures.cap };
       told = record {
         tells = λ ss q s k g l o. query_told c.args.bytes.now c.args.guide.now _ c.begin.new.table c.load.new.table c.load.new.work c.args.schema_at c.args.types c.args.query_at c.request_names.ensures b.entries b.fields n
             c.in-Some.top c.as_slice.result.now _ _ d e w.told ss q s k g l;

@@ -2,4 +2,4 @@ use Rattle.std.proofs.lemmas.Result.{err_from_is_err_and}
 use Rattle.typing.proofs.memory.new.Goals as goal
 
 pub returns-in_err-schema : goal.returns-in_err-schema
-returns-in_err-schema c = let p = err_from_is_err_and c.from_residual-in_err-schema.result c.from_residual-in_err-schema.ensures.1 in rw p.1 tt
+returns-in_err-schema c = let p = err_from_is_err_and c.from_residual-in_err-schema.result c.from_residual-in_err-schema.ensures.1 in rw p.1 record { roomy = tt; spacious = tt }

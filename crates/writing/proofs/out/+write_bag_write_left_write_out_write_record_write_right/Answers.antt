@@ -10,39 +10,33 @@ use Rattle.writing.proofs.out.+write_bag_write_left_write_out_write_record_write
 -- a value by its kind
 pub write_out-returns-in-Nothing : goal.write_out-returns-in-Nothing
 write_out-returns-in-Nothing t c =
-    record {
-      within = plains.put_within (0 ∷ le 0 0) c.args.out.now c.put_tagged.new.out c.put_tagged.result c.put_tagged.ensures;
-      means = plains.by_value c.args.bytes.now _ c.args.value _ c.args.out.now _ _ c.in-Nothing.is (plains.unit_written c.args.bytes.now _ c.args.out.now _ _ c.put_tagged.ensures);
-    }
+    let a = plains.by_value c.args.bytes.now _ c.args.value _ c.args.out.now _ _ c.in-Nothing.is (plains.unit_written c.args.bytes.now _ c.args.out.now _ _ c.put_tagged.ensures) in
+    record { within = plains.put_within (0 ∷ le 0 0) c.args.out.now c.put_tagged.new.out c.put_tagged.result c.put_tagged.ensures; means = plains.if_fits a; any = a }
 
 pub write_out-returns-in-Number : goal.write_out-returns-in-Number
 write_out-returns-in-Number t c =
-    record {
-      within = plains.put_within (1 ∷ le 8 c.in-Number.n) c.args.out.now c.put_tagged-in-Number.new.out c.put_tagged-in-Number.result c.put_tagged-in-Number.ensures;
-      means = plains.by_value c.args.bytes.now _ c.args.value _ c.args.out.now _ _ c.in-Number.is (plains.number_written c.args.bytes.now _ c.args.out.now _ _ c.in-Number.n c.put_tagged-in-Number.ensures);
-    }
+    let a = plains.by_value c.args.bytes.now _ c.args.value _ c.args.out.now _ _ c.in-Number.is (plains.number_written c.args.bytes.now _ c.args.out.now _ _ c.in-Number.n c.put_tagged-in-Number.ensures) in
+    record { within = plains.put_within (1 ∷ le 8 c.in-Number.n) c.args.out.now c.put_tagged-in-Number.new.out c.put_tagged-in-Number.result c.put_tagged-in-Number.ensures; means = plains.if_fits a; any = a }
 
 pub write_out-returns-in-Truth : goal.write_out-returns-in-Truth
 write_out-returns-in-Truth t c =
-    record {
-      within = plains.put_within (c.truth_tag.result ∷ le 0 0) c.args.out.now c.put_tagged-in-Truth.new.out c.put_tagged-in-Truth.result c.put_tagged-in-Truth.ensures;
-      means = plains.by_value c.args.bytes.now _ c.args.value _ c.args.out.now _ _ c.in-Truth.is (plains.truth_written c.args.bytes.now _ c.args.out.now _ _ c.in-Truth.b c.truth_tag.result c.truth_tag.ensures c.put_tagged-in-Truth.ensures);
-    }
+    let a = plains.by_value c.args.bytes.now _ c.args.value _ c.args.out.now _ _ c.in-Truth.is (plains.truth_written c.args.bytes.now _ c.args.out.now _ _ c.in-Truth.b c.truth_tag.result c.truth_tag.ensures c.put_tagged-in-Truth.ensures) in
+    record { within = plains.put_within (c.truth_tag.result ∷ le 0 0) c.args.out.now c.put_tagged-in-Truth.new.out c.put_tagged-in-Truth.result c.put_tagged-in-Truth.ensures; means = plains.if_fits a; any = a }
 
 pub write_out-returns-in-Text : goal.write_out-returns-in-Text
-write_out-returns-in-Text t c = let e = c.write_text.ensures in record { within = e.within; means = plains.by_value c.args.bytes.now _ c.args.value _ c.args.out.now _ _ c.in-Text.is (e.means _) }
+write_out-returns-in-Text t c = let e = c.write_text.ensures in let a = plains.by_value c.args.bytes.now _ c.args.value _ c.args.out.now _ _ c.in-Text.is (e.means _) in record { within = e.within; means = plains.if_fits a; any = a }
 
 pub write_out-returns-in-Bag : goal.write_out-returns-in-Bag
-write_out-returns-in-Bag t c = let e = c.write_bag.ensures in record { within = e.within; means = plains.by_value c.args.bytes.now _ c.args.value _ c.args.out.now _ _ c.in-Bag.is e.means }
+write_out-returns-in-Bag t c = let e = c.write_bag.ensures in let a = plains.by_value c.args.bytes.now _ c.args.value _ c.args.out.now _ _ c.in-Bag.is e.means in record { within = e.within; means = plains.if_fits a; any = a }
 
 pub write_out-returns-in-Record : goal.write_out-returns-in-Record
-write_out-returns-in-Record t c = let e = c.write_record.ensures in record { within = e.within; means = plains.by_value c.args.bytes.now _ c.args.value _ c.args.out.now _ _ c.in-Record.is e.means }
+write_out-returns-in-Record t c = let e = c.write_record.ensures in let a = plains.by_value c.args.bytes.now _ c.args.value _ c.args.out.now _ _ c.in-Record.is e.means in record { within = e.within; means = plains.if_fits a; any = a }
 
 pub write_out-returns-in-Left : goal.write_out-returns-in-Left
-write_out-returns-in-Left t c = let e = c.write_left.ensures in record { within = e.within; means = plains.by_value c.args.bytes.now _ c.args.value _ c.args.out.now _ _ c.in-Left.is e.means }
+write_out-returns-in-Left t c = let e = c.write_left.ensures in let a = plains.by_value c.args.bytes.now _ c.args.value _ c.args.out.now _ _ c.in-Left.is e.means in record { within = e.within; means = plains.if_fits a; any = a }
 
 pub write_out-returns-in-Right : goal.write_out-returns-in-Right
-write_out-returns-in-Right t c = let e = c.write_right.ensures in record { within = e.within; means = plains.by_value c.args.bytes.now _ c.args.value _ c.args.out.now _ _ c.in-Right.is e.means }
+write_out-returns-in-Right t c = let e = c.write_right.ensures in let a = plains.by_value c.args.bytes.now _ c.args.value _ c.args.out.now _ _ c.in-Right.is e.means in record { within = e.within; means = plains.if_fits a; any = a }
 
 -- a bag
 pub write_bag-returns-in_err-n : goal.write_bag-returns-in_err-n
@@ -72,7 +66,7 @@ write_bag-returns-in_err-e t c =
     rw c.from_residual-in_err-e.ensures record {
       within = tt;
       means = rows.writes_long c.args.bytes.now _ _ c.put_tagged.new.out c.args.out.now _ _ c.put_tagged.auto.out
-          (rows.bag_stop c.args.bytes.now _ c.args.p c.put_tagged.new.out c.loop-i.out c.loop-i._i c.loop-i.n c.loop-i.at c.loop-i.invariant c.loop-i-test.true c.in_ok-v.v c.in_ok-v.ensures.1 c.write_out.new.out _ c.in_err-e.ensures.means);
+          (rows.bag_stop c.args.bytes.now _ c.args.p c.put_tagged.new.out c.loop-i.out c.loop-i._i c.loop-i.n c.loop-i.at c.loop-i.invariant c.loop-i-test.true c.in_ok-v.v c.in_ok-v.ensures.1 c.write_out.new.out _ c.in_err-e.ensures.any);
     }
 
 pub write_bag-loop-i-preserved : goal.write_bag-loop-i-preserved
@@ -80,7 +74,7 @@ write_bag-loop-i-preserved t c =
     let e = c.in_ok-e.ensures in
     let w = c.loop-i.invariant in
     rows.bag_turned c.args.bytes.now _ c.args.p c.put_tagged.new.out c.loop-i.out c.loop-i._i c.loop-i.n c.loop-i.at w c.loop-i-test.true c.in_ok-v.v c.in_ok-v.ensures.1 c.write_out.new.out _ c.in_ok-e.e
-    c.write_out.auto.out e.within (part_long c.loop-i.out c.write_out.new.out c.loop-i.n (omega (arith, w.within, w.long)) c.write_out.auto.out) e.means
+    c.write_out.auto.out e.within (part_long c.loop-i.out c.write_out.new.out c.loop-i.n (omega (arith, w.within, w.long)) c.write_out.auto.out) e.any
 
 pub write_bag-returns : goal.write_bag-returns
 write_bag-returns t c =
@@ -109,7 +103,7 @@ pub write_left-returns-in_err-e : goal.write_left-returns-in_err-e
 write_left-returns-in_err-e t c =
     rw c.from_residual-in_err-e.ensures record {
       within = tt;
-      means = plains.left_stop c.args.bytes.now _ c.args.at c.args.out.now c.put_tagged.new.out c.in_ok-n.n c.put_tagged.auto.out c.in_ok-n.ensures c.write_out.new.out c.in_ok-v.v c.in_ok-v.ensures.1 c.in_err-e.ensures.means _;
+      means = plains.left_stop c.args.bytes.now _ c.args.at c.args.out.now c.put_tagged.new.out c.in_ok-n.n c.put_tagged.auto.out c.in_ok-n.ensures c.write_out.new.out c.in_ok-v.v c.in_ok-v.ensures.1 c.in_err-e.ensures.any _;
     }
 
 pub write_left-returns : goal.write_left-returns
@@ -118,7 +112,7 @@ write_left-returns t c =
     let e = c.in_ok-e.ensures in
     record {
       within = part_within _ _ _ _ c.put_tagged.auto.out f.within e.within;
-      means = plains.left_put c.args.bytes.now _ c.args.at c.args.out.now c.put_tagged.new.out c.in_ok-n.n c.put_tagged.auto.out f c.write_out.new.out c.in_ok-v.v c.in_ok-v.ensures.1 _ c.in_ok-e.e c.write_out.auto.out e.means;
+      means = plains.left_put c.args.bytes.now _ c.args.at c.args.out.now c.put_tagged.new.out c.in_ok-n.n c.put_tagged.auto.out f c.write_out.new.out c.in_ok-v.v c.in_ok-v.ensures.1 _ c.in_ok-e.e c.write_out.auto.out e.any;
     }
 
 -- the right side of an either
@@ -139,7 +133,7 @@ pub write_right-returns-in_err-e : goal.write_right-returns-in_err-e
 write_right-returns-in_err-e t c =
     rw c.from_residual-in_err-e.ensures record {
       within = tt;
-      means = plains.right_stop c.args.bytes.now _ c.args.at c.args.out.now c.put_tagged.new.out c.in_ok-n.n c.put_tagged.auto.out c.in_ok-n.ensures c.write_out.new.out c.in_ok-v.v c.in_ok-v.ensures.1 c.in_err-e.ensures.means _;
+      means = plains.right_stop c.args.bytes.now _ c.args.at c.args.out.now c.put_tagged.new.out c.in_ok-n.n c.put_tagged.auto.out c.in_ok-n.ensures c.write_out.new.out c.in_ok-v.v c.in_ok-v.ensures.1 c.in_err-e.ensures.any _;
     }
 
 pub write_right-returns : goal.write_right-returns
@@ -148,7 +142,7 @@ write_right-returns t c =
     let e = c.in_ok-e.ensures in
     record {
       within = part_within _ _ _ _ c.put_tagged.auto.out f.within e.within;
-      means = plains.right_put c.args.bytes.now _ c.args.at c.args.out.now c.put_tagged.new.out c.in_ok-n.n c.put_tagged.auto.out f c.write_out.new.out c.in_ok-v.v c.in_ok-v.ensures.1 _ c.in_ok-e.e c.write_out.auto.out e.means;
+      means = plains.right_put c.args.bytes.now _ c.args.at c.args.out.now c.put_tagged.new.out c.in_ok-n.n c.put_tagged.auto.out f c.write_out.new.out c.in_ok-v.v c.in_ok-v.ensures.1 _ c.in_ok-e.e c.write_out.auto.out e.any;
     }
 
 -- a record
@@ -191,7 +185,7 @@ write_record-returns-in_err-e t c =
     rw c.from_residual-in_err-e.ensures record {
       within = tt;
       means = rows.writes_long c.args.bytes.now _ _ (put_mid c.in_ok-n.n (length c.put_tagged.new.out - c.in_ok-n.n) c.put_tagged.new.out c.write_names.new.out) c.args.out.now _ _ l
-          (rows.record_stop c.args.bytes.now _ c.args.p (put_mid c.in_ok-n.n (length c.put_tagged.new.out - c.in_ok-n.n) c.put_tagged.new.out c.write_names.new.out) c.loop-i.out c.loop-i._i c.loop-i.n c.loop-i.at c.loop-i.invariant c.loop-i-test.true c.in_ok-f.f c.in_ok-f.ensures.1 c.write_out.new.out _ c.in_err-e.ensures.means);
+          (rows.record_stop c.args.bytes.now _ c.args.p (put_mid c.in_ok-n.n (length c.put_tagged.new.out - c.in_ok-n.n) c.put_tagged.new.out c.write_names.new.out) c.loop-i.out c.loop-i._i c.loop-i.n c.loop-i.at c.loop-i.invariant c.loop-i-test.true c.in_ok-f.f c.in_ok-f.ensures.1 c.write_out.new.out _ c.in_err-e.ensures.any);
     }
 
 pub write_record-loop-i-preserved : goal.write_record-loop-i-preserved
@@ -199,7 +193,7 @@ write_record-loop-i-preserved t c =
     let e = c.in_ok-e.ensures in
     let w = c.loop-i.invariant in
     rows.record_turned c.args.bytes.now _ c.args.p (put_mid c.in_ok-n.n (length c.put_tagged.new.out - c.in_ok-n.n) c.put_tagged.new.out c.write_names.new.out) c.loop-i.out c.loop-i._i c.loop-i.n c.loop-i.at w c.loop-i-test.true c.in_ok-f.f c.in_ok-f.ensures.1 c.write_out.new.out _ c.in_ok-e.e
-    c.write_out.auto.out e.within (part_long c.loop-i.out c.write_out.new.out c.loop-i.n (omega (arith, w.within, w.long)) c.write_out.auto.out) e.means
+    c.write_out.auto.out e.within (part_long c.loop-i.out c.write_out.new.out c.loop-i.n (omega (arith, w.within, w.long)) c.write_out.auto.out) e.any
 
 pub write_record-returns : goal.write_record-returns
 write_record-returns t c =
