@@ -11,13 +11,13 @@ returns-in-Err c = refused_answer c.args.bytes.now (length c.args.lent.now) c.in
 
 pub ask_of-requires : goal.ask_of-requires
 ask_of-requires c =
-    let e = c.deref.ensures.value ∙ take_at c.checked-passed.new.guide _ c.args.desk.now.guide.len (c.checked-passed.auto.guide ∙ c.deref-mut.ensures.len) in
+    let e = c.deref.ensures.value ∙ take_at c.checked-passed.new.guide _ c.args.desk.now.guide.len (c.checked-passed.auto.guide ∙ c.deref_mut.ensures.len) in
     let l = subst (λ (g : List ℕ). LetThrough c.args.bytes.now g c.in-Ok.ask) (sym e) c.in-Ok.ensures.told in
     record { passed = l.passed; marks = search rules }
 
 pub returns : goal.returns
 returns c =
-    let e = c.deref.ensures.value ∙ take_at c.checked-passed.new.guide _ c.args.desk.now.guide.len (c.checked-passed.auto.guide ∙ c.deref-mut.ensures.len) in
+    let e = c.deref.ensures.value ∙ take_at c.checked-passed.new.guide _ c.args.desk.now.guide.len (c.checked-passed.auto.guide ∙ c.deref_mut.ensures.len) in
     let l = subst (λ (g : List ℕ). LetThrough c.args.bytes.now g c.in-Ok.ask) (sym e) c.in-Ok.ensures.told in
     subst (λ (r : Answer). Answered thin c.args.bytes.now (length c.args.lent.now) r) (sym c.answer_of.ensures)
     (outcome_answer c.args.bytes.now c.deref.result.now c.in-Ok.ask l (length c.args.lent.now) c.ask_of.result (c.ask_of.ensures.means l.passed))
