@@ -1,10 +1,10 @@
 -- Memory that is enough for asking.
-use Rattle.std.proofs.Common.{◌≡◌, ℕ, suc, ◌+◌, ◌*◌, ◌<◌, ◌≤◌, Bool, true, false, leb, List, [], ◌∷◌, ◌++◌, length, sym, refl, ap, ◌∙◌, subst, mul_assoc, mul-le-mul, mul-suc, arith, leb-false, leb-true}
+use Rattle.std.proofs.Common.{◌≡◌, ℕ, suc, ◌+◌, ◌*◌, ◌<◌, ◌≤◌, Bool, true, false, leb, mul_assoc, mul-le-mul, mul-suc, arith}
 use Rattle.query.specs.Data.{pick}
 use Rattle.query.specs.Query.{Query, Tables, Got, asked}
 use Rattle.query.specs.Types.{Schema}
-use Rattle.query.specs.Size.{size_s, size_q, size_tables}
-use Rattle.query.specs.Promise.{size_out, parts, enough_to_ask}
+use Rattle.query.specs.Size.{size_q, size_tables}
+use Rattle.query.specs.Promise.{parts, enough_to_ask}
 use Rattle.guide.proofs.Sizes.{query_some}
 use Rattle.asking.specs.Outcomes.{Lacking}
 

@@ -1,5 +1,5 @@
 -- Memory cut where what is in use ends: values are read from the first part, and bytes are written into the rest.
-use Rattle.std.proofs.Common.{◌≡◌, ℕ, ◌+◌, ◌-◌, ◌<◌, ◌≤◌, List, [], ◌∷◌, ◌++◌, length, get_or, take, Some, None, sym, refl, ap, ◌∙◌, arith, length-append, Bor}
+use Rattle.std.proofs.Common.{◌≡◌, ℕ, ◌-◌, ◌<◌, ◌≤◌, List, ◌++◌, length, get_or, take, Some, None, sym, ap, ◌∙◌, arith, length-append, Bor}
 use Rattle.std.proofs.lemmas.List.{append_assoc}
 use Rattle.query.specs.Data.{Data}
 use Rattle.format.specs.Wire.{write_data}

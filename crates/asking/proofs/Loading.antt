@@ -1,5 +1,5 @@
 -- Tables are loaded first, and what the query writes out above them.
-use Rattle.std.proofs.Common.{◌≡◌, ℕ, suc, ◌+◌, ◌*◌, ◌<◌, ◌≤◌, true, false, List, [], ◌∷◌, ◌++◌, length, drop, Some, None, Option, sym, refl, ap, ◌∙◌, subst, arith}
+use Rattle.std.proofs.Common.{◌≡◌, ℕ, suc, ◌+◌, ◌*◌, ◌<◌, ◌≤◌, true, false, List, [], ◌∷◌, length, drop, Some, None, Option, sym, refl, ap, ◌∙◌, subst, arith}
 use Rattle.query.specs.Query.{a_unit}
 use Rattle.query.specs.Types.{Schema, tables_are}
 use Rattle.query.specs.Query.{Tables}
@@ -11,16 +11,15 @@ use Rattle.format.specs.Nodes.{Stands}
 use Rattle.format.specs.declared.node.Ask.{Ask}
 use Rattle.query.proofs.Tests.{and_r}
 use Rattle.guide.proofs.Sizes.{query_bytes}
-use Rattle.values.specs.Memory.{Used, Under, Kept, Agree}
+use Rattle.values.specs.Memory.{Used, Under, Kept}
 use Rattle.values.proofs.Frame.{kept_agree}
 use Rattle.loading.specs.Loads.{TablesReady, TablesLoaded, LoadsTables}
-use Rattle.literals.specs.Literals.{Brings, Comes, Brought, Ready}
+use Rattle.literals.specs.Literals.{Brings, Brought, Ready}
 use Rattle.literals.specs.declared.load.Literals.{Literals}
 use Rattle.literals.proofs.Typed.{justs_typed}
 use Rattle.operators.proofs.Grows.{under_grown}
-use Rattle.eval.specs.Ready.{Row}
 use Rattle.eval.proofs.Frames.{row_kept}
-use Rattle.asking.specs.Passed.{Passed, LoadedUp, Loading}
+use Rattle.asking.specs.Passed.{Passed, Loading}
 
 abbrev pub nowhere : Used
 nowhere k = false

@@ -1,18 +1,17 @@
 -- What comes of working a query out and writing what it comes to.
-use Rattle.std.proofs.Common.{◌≡◌, ℕ, ◌+◌, ◌*◌, ◌<◌, ◌≤◌, List, [], ◌∷◌, length, sym, refl, ap, ◌∙◌, subst, arith}
+use Rattle.std.proofs.Common.{◌≡◌, ℕ, List, [], ◌∷◌, length, ap, arith}
 use Rattle.query.specs.Data.{Data}
 use Rattle.query.specs.Query.{Got}
 use Rattle.query.specs.Promise.{size_out}
 use Rattle.query.specs.Size.{size_d}
-use Rattle.format.specs.Wire.{write_data}
 use Rattle.guide.proofs.Sizes.{data_bytes}
 use Rattle.values.specs.Memory.{Used, Under}
-use Rattle.operators.specs.Means.{CameTo, Short, Comes, Stopped as Stops}
+use Rattle.operators.specs.Means.{CameTo, Stopped as Stops}
 use Rattle.operators.specs.declared.came.Came.{Came}
 use Rattle.operators.specs.declared.came.Stop.{Stop}
 use Rattle.operators.specs.declared.came.Stop.TheVariants.{Tired, NoRoom, Wrong}
 use Rattle.operators.proofs.Grows.{under_grown}
-use Rattle.asking.specs.Outcomes.{PutsOut, WrittenOut, CameOut, Lacking, OutOf}
+use Rattle.asking.specs.Outcomes.{PutsOut, WrittenOut, OutOf}
 use Rattle.asking.specs.declared.outcome.Outcome.{Outcome}
 use Rattle.asking.specs.declared.outcome.Outcome.TheVariants.{Is, Stopped}
 

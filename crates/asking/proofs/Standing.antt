@@ -1,9 +1,9 @@
 -- A request that has passed, with what was loaded for it, is ready to be worked out; and what an outcome then tells.
-use Rattle.std.proofs.Common.{◌≡◌, ℕ, suc, ◌+◌, ◌*◌, ◌<◌, ◌≤◌, max, true, List, [], ◌∷◌, ◌++◌, length, drop, sym, refl, ap, ◌∙◌, subst, arith}
-use Rattle.query.specs.Data.{Data, unit, same_text}
-use Rattle.query.specs.Query.{Ty, a_unit, Query, Tables, Got, asked}
+use Rattle.std.proofs.Common.{◌≡◌, ℕ, ◌+◌, ◌*◌, ◌≤◌, true, List, [], ◌∷◌, ◌++◌, length, drop, sym, refl, ap, ◌∙◌, arith}
+use Rattle.query.specs.Data.{unit, same_text}
+use Rattle.query.specs.Query.{a_unit, asked}
 use Rattle.query.specs.Types.{Schema, sound, is_of, code}
-use Rattle.query.specs.Size.{size_s, size_q, size_tables}
+use Rattle.query.specs.Size.{size_s}
 use Rattle.query.proofs.Comes.{comes}
 use Rattle.format.specs.Wire.{write_query}
 use Rattle.format.specs.declared.node.Ask.{Ask}

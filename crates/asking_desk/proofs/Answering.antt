@@ -1,9 +1,8 @@
 -- The answer to a request, from what its checks say and what comes of asking.
-use Rattle.std.proofs.Common.{◌≡◌, ℕ, ◌<◌, List, [], ◌∷◌, sym, refl, ap, ◌∙◌, subst, arith}
-use Rattle.query.specs.Promise.{Asked, ask, Answer as Said, refused, is, tired, no_room, turned, place, RightAnswer, thin}
+use Rattle.std.proofs.Common.{ℕ, List, refl, ap, ◌∙◌, arith}
+use Rattle.query.specs.Promise.{Asked, ask, Answer as Said, refused, is, tired, no_room, turned, RightAnswer, thin}
 use Rattle.format.specs.declared.node.Ask.{Ask}
 use Rattle.operators.specs.declared.came.Stop.TheVariants as st
-use Rattle.asking.specs.Passed.{Passed}
 use Rattle.asking.specs.Asked.{Told}
 use Rattle.asking.specs.declared.outcome.Outcome.{Outcome}
 use Rattle.asking.specs.declared.outcome.Outcome.TheVariants as oc

@@ -1,5 +1,5 @@
 -- The request to ask that bytes are, by its parts.
-use Rattle.std.proofs.Common.{◌≡◌, ℕ, List, length, sym, refl, ap, ◌∙◌, subst}
+use Rattle.std.proofs.Common.{◌≡◌, ℕ, List, sym, ap, ◌∙◌, subst}
 use Rattle.query.specs.Query.{Query, Tables}
 use Rattle.query.specs.Types.{Schema}
 use Rattle.format.specs.Wire.{Request, to_ask, write_request, FitsRequest}

@@ -1,19 +1,19 @@
 -- Which number a request is refused by: that of the first check that it does not pass.
-use Rattle.std.proofs.Common.{◌≡◌, ℕ, ◌+◌, ◌<◌, ◌≤◌, Bool, true, false, leb, List, [], ◌∷◌, sym, refl, ap, ◌∙◌, subst, arith, lit<, le-leb}
+use Rattle.std.proofs.Common.{◌≡◌, ℕ, ◌+◌, ◌<◌, ◌≤◌, Bool, true, false, leb, List, [], ◌∷◌, sym, refl, ap, ◌∙◌, subst, lit<, le-leb}
 use borrow.Author.Tests.{lt-leb}
 use Rattle.query.specs.Data.{pick}
 use Rattle.query.specs.Query.{Ty, Query, Tables}
 use Rattle.query.specs.Types.{Schema, type_asked, tables_are}
 use Rattle.query.specs.Size.{size_s, size_q, all_sound, some_ty}
-use Rattle.query.specs.Promise.{Asked, ask, plan, garbled, kind, turned_by, turned, place, thin}
-use Rattle.format.specs.Wire.{Request, to_ask, to_plan, requests, write_request, FitsRequest}
-use Rattle.format.specs.Reading.{Asks, Garbled}
+use Rattle.query.specs.Promise.{ask, plan, garbled, kind, turned_by, turned, place, thin}
+use Rattle.format.specs.Wire.{Request, to_plan, requests, write_request, FitsRequest}
+use Rattle.format.specs.Reading.{Garbled}
 use Rattle.format.specs.Nodes.{Requested}
 use Rattle.format.specs.declared.node.Ask.{Ask}
 use Rattle.format.specs.declared.node.Plan.{Plan}
 use Rattle.format.specs.declared.node.Request.TheVariants as rn
 use Rattle.asking.specs.Passed.{Passed}
-use Rattle.asking_desk.specs.Checked.{RefusedBy, LetThrough}
+use Rattle.asking_desk.specs.Checked.{RefusedBy}
 use Rattle.asking_desk.proofs.Requests.{IsToAsk}
 
 -- the number by the outcomes of the checks

@@ -1,18 +1,17 @@
 -- The guide to a query within the limit is written, and the query's type is told.
-use Rattle.std.proofs.Common.{◌≡◌, ℕ, ◌+◌, ◌*◌, ◌^◌, ◌<◌, ◌≤◌, true, List, [], ◌∷◌, ◌++◌, length, drop, Some, None, Option, sym, refl, ap, ◌∙◌, subst, arith, lit<}
+use Rattle.std.proofs.Common.{◌≡◌, ℕ, ◌≤◌, List, length, drop, Some, None, Option, ◌∙◌, arith}
 use Rattle.query.specs.Data.{Name}
-use Rattle.query.specs.Query.{Ty, Query}
+use Rattle.query.specs.Query.{Query}
 use Rattle.query.specs.Types.{Schema, type_asked}
-use Rattle.query.specs.Size.{size_s, size_q, all_sound}
-use Rattle.format.specs.Wire.{write_query}
+use Rattle.query.specs.Size.{size_q}
 use Rattle.format.specs.declared.node.Ask.{Ask}
-use Rattle.checks.specs.Checks.{SchemaAt, QueryAt}
+use Rattle.checks.specs.Checks.{QueryAt}
 use Rattle.guide.specs.Guide.{Guided}
-use Rattle.guide.specs.Marks.{nesting, Markable, Marked}
+use Rattle.guide.specs.Marks.{Markable, Marked}
 use Rattle.guide.proofs.Sizes.{query_bytes, nesting_parts}
 use Rattle.types.specs.Shapes.{Shape, type_at}
 use Rattle.types.specs.Outcomes.{told}
-use Rattle.asking_desk.specs.Checked.{TypedSo, TypeTold}
+use Rattle.asking_desk.specs.Checked.{TypedSo}
 
 module _ (xs g h : List ℕ) (a : Ask) (q : Query) (at : QueryAt xs a.query_at q) (small : size_q q ≤ 8192) (long : 73728 ≤ length g) where
   markable : (qs : List ℕ) → qs ≡ drop a.query_at xs → Markable qs (length g) 0 8192 q at.stands.rest

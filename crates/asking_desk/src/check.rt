@@ -7,7 +7,7 @@ use checks::{in_order, of_schema, within_limit};
 use format::node::{Ask, Request};
 use format::requests::read_request;
 use guide::mark;
-use typed::query::query_type;
+use typed::whole::query_type;
 use typing::memory::Memory;
 
 // Why a request is refused: the number of the first check that it does not pass, and a place in its bytes.

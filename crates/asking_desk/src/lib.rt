@@ -1,4 +1,6 @@
 // The desk: the public call.
+#![tactic(auto)]
+
 pub mod answer;
 pub mod ask;
 mod check;

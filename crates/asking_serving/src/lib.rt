@@ -1,4 +1,6 @@
 // Serving a file of requests by the desk that asks: as the crate serving does, but for the desk.
+#![tactic(auto)]
+
 pub mod answers;
 
 use answers::answer_all;

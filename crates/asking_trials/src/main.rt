@@ -2,6 +2,8 @@
 // or another; the tables of these, loaded and written out again; and requests that are hard for one reason or another: nested millions deep, counts
 // and lengths that promise more than comes, types and data that would be vast as trees, no memory lent. The hard ones are made here, since most would
 // be too large to keep; one that takes two seconds or more is said to be late. What is written is compared with the right lines.
+#![tactic(auto)]
+
 mod bench;
 mod deep;
 mod reload;
@@ -10,11 +12,11 @@ mod short;
 mod trip;
 mod write;
 
+use asking_serving::serve;
 use bench::Bench;
 use deep::{deep_data, deep_queries};
 use reload::reload;
 use serving::fault::Fault;
-use asking_serving::serve;
 use shared::{shared_parts, vast};
 use short::{broken_off, nothing_lent};
 use std::process::ExitCode;

@@ -1,12 +1,12 @@
 -- Operators that make no memory.
-use Rattle.std.proofs.Common.{◌≡◌, ℕ, ◌+◌, ◌-◌, ◌*◌, ◌%◌, ◌<◌, ◌≤◌, Bool, ◌&&◌, ◌||◌, ltb, List, [], ◌∷◌, length, Ok, Err, Result, sym, refl, ap, ◌∙◌, subst, arith}
+use Rattle.std.proofs.Common.{◌≡◌, ℕ, ◌+◌, ◌%◌, ◌≤◌, Bool, ◌&&◌, ◌||◌, ltb, List, [], length, Ok, Err, Result, sym, refl, ap, ◌∙◌, subst, arith}
 use Rattle.query.specs.Data.{Data, num, truth, same}
 use Rattle.query.specs.Query.{Got, came, adding, on_num, on_truth, apply2, word}
 use Rattle.format.specs.Nodes.{op_2}
 use Rattle.format.specs.declared.node.Binary.{Binary}
 use Rattle.format.specs.declared.node.Binary.TheVariants.{Equal, And, Or, Plus, Less}
 use Rattle.values.specs.Memory.{Used, Under, Holds}
-use Rattle.values.specs.Height.{height, height_ty}
+use Rattle.values.specs.Height.{height}
 use Rattle.values.specs.declared.value.Value.{Value}
 use Rattle.values.specs.declared.value.Value.TheVariants.{Number, Truth}
 use Rattle.values.proofs.Frame.{kept_refl}

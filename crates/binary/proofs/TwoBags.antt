@@ -3,7 +3,7 @@ use Rattle.std.proofs.Common.{◌≡◌, ℕ, ◌+◌, ◌-◌, ◌*◌, ◌<◌
 use Rattle.query.specs.Data.{Data, truth, bag, Datas, join, how_many, is_in}
 use Rattle.query.specs.Query.{Got, came, adding, on_bag, apply2, join_bags, within}
 use Rattle.format.specs.declared.node.Binary.TheVariants.{JoinBags, Within}
-use Rattle.values.specs.Memory.{Used, Under, Run, Holds, HoldsAll, Readable}
+use Rattle.values.specs.Memory.{Used, Under, Holds, Readable}
 use Rattle.values.specs.Making.{BagLies}
 use Rattle.values.specs.declared.value.Place.{Place}
 use Rattle.values.specs.declared.value.Value.{Value}
@@ -13,14 +13,14 @@ use Rattle.values.proofs.Frame.{kept_refl}
 use Rattle.bags.specs.Bags.{Joins, IsWithin}
 use Rattle.bags.proofs.Things.{as_many, join_many, bag_readable, few}
 use Rattle.operators.specs.Kinds.{as_bag}
-use Rattle.operators.specs.Means.{Stopped, Means}
+use Rattle.operators.specs.Means.{Means}
 use Rattle.operators.specs.declared.came.Came.{Came}
 use Rattle.operators.specs.declared.came.Stop.{Stop}
 use Rattle.operators.specs.declared.came.Stop.TheVariants.{Tired, NoRoom}
 use Rattle.operators.proofs.OfKind.{is_bag, no_bag}
 use Rattle.operators.proofs.Steps.{means_adding, means_paid, tired_first, made_paid, no_room_paid, at_hand}
 use Rattle.binary.specs.Operands.{Operands, Does, DoesThere, SomeOperands}
-use Rattle.binary.proofs.Simple.{wrong_stop, under_all, first_shallow}
+use Rattle.binary.proofs.Simple.{wrong_stop, first_shallow}
 
 -- a value that is a bag: its things, at its place
 pub record LiesBag (bs m : List ℕ) (u : Used) (top : ℕ) (d : Data) (x : Place) : Type 0 where

@@ -1,12 +1,12 @@
 -- Records in order, and how many fields they have.
-use Rattle.std.proofs.Common.{◌≡◌, ℕ, suc, ◌+◌, ◌*◌, ◌≤◌, true, ◌&&◌, List, [], ◌∷◌, length, sym, refl, ap, ◌∙◌, subst, arith}
-use Rattle.query.specs.Data.{Name, Data, Fields, no_field, field, after_name, in_order, both, less_text}
-use Rattle.query.specs.Query.{Ty, Tys, no_ty, ty, a_rec}
-use Rattle.query.specs.Types.{sound, sounds, first_after, fields_are, both_tys}
+use Rattle.std.proofs.Common.{◌≡◌, suc, ◌≤◌, true, List, length, sym, refl, ap, subst, arith}
+use Rattle.query.specs.Data.{Name, Fields, no_field, field, after_name, in_order, both, less_text}
+use Rattle.query.specs.Query.{Tys, no_ty, ty}
+use Rattle.query.specs.Types.{sounds, first_after, fields_are, both_tys}
 use Rattle.query.proofs.Tests.{and_i}
-use Rattle.query.proofs.OfType.{field_out, no_field_out, no_ty_out, both_of}
+use Rattle.query.proofs.OfType.{field_out, no_ty_out, both_of}
 use Rattle.query.proofs.SoundRecords.{sounds_out}
-use Rattle.bounds.specs.Names.{width, width_ty, nameds}
+use Rattle.bounds.specs.Names.{width, nameds}
 use Rattle.bounds.proofs.Widths.{as_wide, no_wider}
 use Rattle.records.specs.Parts.{how_many_fields}
 

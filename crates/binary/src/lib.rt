@@ -1,4 +1,6 @@
 // Operators on what two parts of a query came to.
+#![tactic(auto)]
+
 pub mod by;
 pub mod choose;
 pub mod fill;

@@ -1,16 +1,15 @@
 -- Data nest no deeper than their type.
-use mathlib.Core.Path.{◌≡◌, refl, sym, ap, subst, ◌∙◌}
-use mathlib.Core.Bool.{Bool, true, false, ◌&&◌, false≢true}
+use mathlib.Core.Path.{◌≡◌, refl, ap}
+use mathlib.Core.Bool.{Bool, true, false≢true}
 use mathlib.Core.List.{List, [], ◌∷◌}
-use Prim.Native.Nat.{ℕ, suc, max, ◌≤◌}
+use Prim.Native.Nat.{◌≤◌}
 use native.Mathlib.Omega.{arith}
 use Rattle.query.specs.Data.{Data, unit, num, truth, text, bag, rec, left, right, Datas, none, more, Fields, no_field, field}
-use Rattle.query.specs.Query.{Ty, a_bag, a_rec, an_either, Tys, no_ty, ty}
+use Rattle.query.specs.Query.{Ty, Tys, no_ty, ty}
 use Rattle.query.specs.Types.{is_of, all_of, fields_are, elem, fields_of, sides_of, on_one}
 use Rattle.query.proofs.TypeParts.{elem_out, fields_out, sides_out}
 use Rattle.query.proofs.OfType.{field_out, no_ty_out, first_of, rest_of}
 use Rattle.values.specs.Height.{height, height_all, height_fields, height_ty, height_tys}
-use Rattle.bounds.specs.Bounds.{NoDeeper}
 
 one_out : {A : Type 0} (l : List A) (f : A → Bool) → on_one l f ≡ true → (x : A) × (r : List A) × (l ≡ x ∷ r) × (f x ≡ true)
 unfolding on_one

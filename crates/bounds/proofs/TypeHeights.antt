@@ -1,14 +1,13 @@
 -- The type of a query nests no deeper than what it is asked of and two for each of its parts.
-use mathlib.Core.Path.{◌≡◌, refl, sym, ap, subst, ◌∙◌}
-use mathlib.Core.Bool.{Bool, true, false, ◌&&◌, false≢true}
+use mathlib.Core.Path.{◌≡◌, sym, ap}
+use mathlib.Core.Bool.{Bool, true, false, ◌&&◌}
 use mathlib.Core.List.{List, [], ◌∷◌}
 use Prim.Native.Nat.{ℕ, zero, suc, max, ◌+◌, ◌*◌, ◌≤◌}
 use native.Mathlib.Omega.{arith}
-use lib.ListN.{length}
 use Rattle.query.specs.Data.{Name, pick, same_text, less_text, one_of}
 use Rattle.query.specs.Query.{Op2, Op1, Ty, Tys, Query, equal, and, or, plus, less, join_bags, join_recs, within, not_so, in_bag, flat, count, sum, distinct, dot, as_field, without, project, a_unit, a_num, a_truth, a_text, a_bag, a_rec, an_either, no_ty, ty, table, it, env, just, two, one, each, keep, product, matched, default, as_left, as_right, either, then, with_env}
 use Rattle.query.specs.Types.{same_ty, sound, as_num, elem, fields_of, sides_of, is_of, on_ty, if_so, get_ty, put_ty, both_tys, left_out_ty, only_tys, fields_in, type1, type2, Schema, ty_at, type_of}
-use Rattle.query.specs.Size.{size_t, size_ts, size_1, size_q}
+use Rattle.query.specs.Size.{size_t, size_ts, size_q}
 use Rattle.query.proofs.TypeParts.{on_ty_out, if_so_out, elem_out, fields_out, sides_out, heads, fields_in_out}
 use Rattle.values.specs.Height.{height_ty, height_tys}
 use Rattle.bounds.specs.Names.{schema_height}

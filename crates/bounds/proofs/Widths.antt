@@ -2,20 +2,20 @@
 use mathlib.Core.Path.{◌≡◌, refl, sym, ap, subst, ◌∙◌}
 use mathlib.Core.Bool.{Bool, true, false, ◌&&◌, ◌||◌, true≢false, false≢true}
 use mathlib.Core.List.{List, [], ◌∷◌, ◌++◌}
-use Prim.Native.Nat.{ℕ, suc, ◌+◌, ◌≤◌}
+use Prim.Native.Nat.{suc, ◌+◌, ◌≤◌}
 use native.Mathlib.Omega.{arith}
 use lib.ListN.{length, length-append}
-use Rattle.query.specs.Data.{Name, pick, same_text, less_text, one_of, Fields, no_field, field}
+use Rattle.query.specs.Data.{Name, pick, same_text, less_text, one_of, no_field, field}
 use Rattle.query.specs.Query.{Op1, not_so, in_bag, flat, count, sum, distinct, dot, as_field, without, project, Ty, a_unit, a_num, a_truth, a_text, a_bag, a_rec, an_either, Tys, no_ty, ty, Query, table, it, env, just, two, one, each, keep, product, matched, default, as_left, as_right, either, then, with_env}
-use Rattle.query.specs.Types.{sounds, first_after, fields_are, Schema}
+use Rattle.query.specs.Types.{sounds, first_after, Schema}
 use Rattle.query.specs.Size.{size_t, size_ts, size_1, size_q, size_s}
 use Rattle.query.proofs.Tests.{and_l, and_r, and_i}
-use Rattle.query.proofs.Texts.{same_text_true, same_text_self, less_differs, less_trans}
+use Rattle.query.proofs.Texts.{same_text_true, same_text_self, less_differs}
 use Rattle.query.proofs.SoundRecords.{sounds_out, after_trans}
 use Rattle.query.proofs.OfType.{field_out, no_field_out, no_ty_out}
 use Rattle.bounds.specs.Names.{width, width_ty, named, nameds, names_in, names_in_all, schema_names, op_names, query_names, all_in, schema_named}
 use Rattle.bounds.specs.Bounds.{NoWider, AsWide, FewNames}
-use Rattle.bounds.proofs.Lists.{all_in_left, all_in_right, all_in_first, all_in_second, one_of_left, one_of_right}
+use Rattle.bounds.proofs.Lists.{all_in_left, all_in_right, all_in_first, all_in_second}
 use Rattle.bounds.proofs.Naming.{nameds_out, type_names}
 
 pub as_wide : AsWide

@@ -1,8 +1,8 @@
 -- Bounds: what a query comes to nests no deeper, and its records are no wider, than schema and query allow.
-use Rattle.std.specs.Prelude.{◌≡◌, true, List, [], ◌∷◌, ◌++◌, ℕ, ◌+◌, ◌*◌, ◌≤◌, max, length}
-use Rattle.query.specs.Data.{Name, Data, Fields, rec}
-use Rattle.query.specs.Query.{Ty, a_rec, Tys, Query}
-use Rattle.query.specs.Types.{sound, sounds, is_of, fields_are, Schema, type_of}
+use Rattle.std.specs.Prelude.{◌≡◌, true, List, [], ◌∷◌, ◌++◌, ℕ, ◌+◌, ◌*◌, ◌≤◌, length}
+use Rattle.query.specs.Data.{Name, Data, Fields}
+use Rattle.query.specs.Query.{Ty, Tys, Query}
+use Rattle.query.specs.Types.{sounds, is_of, fields_are, Schema, type_of}
 use Rattle.query.specs.Size.{size_q, size_s}
 use Rattle.values.specs.Height.{height, height_ty}
 use Rattle.bounds.specs.Names.{width, width_ty, named, nameds, schema_names, query_names, all_in, schema_named, schema_height}

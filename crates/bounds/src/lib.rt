@@ -1,4 +1,6 @@
 // Bounds on what queries come to: each function's contract is a theorem.
+#![tactic(auto)]
+
 ghost use Rattle.bounds.specs.Bounds.{NoDeeper, TypeNoDeeper, StaysNamed, NoWider, AsWide, FewNames};
 
 // Data nest no deeper than their type.

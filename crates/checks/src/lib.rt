@@ -1,4 +1,6 @@
 // The checks that a request has to pass before anything is worked out, each with the value that it hands on.
+#![tactic(auto)]
+
 ghost use Rattle.std.specs.Prelude.{◌≡◌};
 ghost use Rattle.checks.specs.Checks.{WithinLimit, InOrder, OfSchema};
 

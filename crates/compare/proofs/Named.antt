@@ -1,7 +1,7 @@
 -- Two records, field by field.
 use Rattle.std.proofs.Common.{◌≡◌, ℕ, ◌+◌, ◌-◌, ◌*◌, ◌<◌, ◌≤◌, min, max, true, false, List, length, get_or, sym, refl, ap, ◌∙◌, subst, arith}
 use Rattle.query.specs.Data.{Name, Data, Fields, no_field, field}
-use Rattle.ordering.specs.Order.{alike, then_way, way, way_fields, way_num, way_text, on_no_field_way, on_field_way}
+use Rattle.ordering.specs.Order.{then_way, way, way_fields, way_num, way_text, on_no_field_way, on_field_way}
 use Rattle.ordering.proofs.Ways.{Numbers, less, even, over, numbers, num_before, num_alike, num_behind}
 use Rattle.values.specs.Memory.{Used, Under, Run, Spelled, Holds, HoldsFields, loaded, loaded_field}
 use Rattle.values.specs.Height.{height, height_fields}

@@ -1,7 +1,7 @@
 -- Two bags, thing by thing.
 use Rattle.std.proofs.Common.{◌≡◌, ℕ, ◌+◌, ◌-◌, ◌*◌, ◌<◌, ◌≤◌, min, max, true, false, List, length, sym, refl, ap, ◌∙◌, subst, arith}
 use Rattle.query.specs.Data.{Data, Datas, none, more}
-use Rattle.ordering.specs.Order.{alike, then_way, way, way_all, way_num, on_none_way, on_more_way}
+use Rattle.ordering.specs.Order.{then_way, way, way_all, way_num, on_none_way, on_more_way}
 use Rattle.ordering.proofs.Ways.{Numbers, less, even, over, numbers, num_before, num_alike, num_behind}
 use Rattle.values.specs.Memory.{Used, Under, Run, Holds, HoldsAll, loaded}
 use Rattle.values.specs.Height.{height, height_all}

@@ -1,5 +1,7 @@
 // Which of two values comes first: by kind, then by what they hold, left before right. A value holds one datum only, so two values whose parts
 // lie at one place are alike, and comparing them ends at once.
+#![tactic(auto)]
+
 ghost use Rattle.std.specs.Prelude.{◌≡◌, ◌+◌, ◌-◌, ◌*◌, ◌^◌, ◌<◌, ◌≤◌, min, true, false, ◌++◌, length, nat_le};
 ghost use Rattle.ordering.specs.Order.{way_num, way_truth, way_text};
 ghost use Rattle.values.specs.Memory.{loaded};

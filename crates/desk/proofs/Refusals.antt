@@ -1,9 +1,9 @@
 -- Which refusal is right, from what the bytes ask.
-use Rattle.std.proofs.Common.{◌≡◌, ℕ, ◌<◌, Bool, true, false, List, sym, refl, ap, ◌∙◌, subst, arith}
+use Rattle.std.proofs.Common.{◌≡◌, ℕ, Bool, List, refl, arith}
 use Rattle.query.specs.Data.{pick}
-use Rattle.query.specs.Promise.{Asked, ask, plan, garbled, refused, kind, turned, place}
+use Rattle.query.specs.Promise.{ask, plan, garbled, kind, place}
 use Rattle.format.specs.Wire.{Request, to_ask, to_plan, requests}
-use Rattle.format.specs.Reading.{Asks, Garbled}
+use Rattle.format.specs.Reading.{Garbled}
 use Rattle.format.specs.Nodes.{Requested}
 use Rattle.format.specs.declared.node.Request.{Request as Node}
 use Rattle.desk.specs.Answered.{Answered, nothing}

@@ -1,3 +1,5 @@
 // The desk: the public call.
+#![tactic(auto)]
+
 pub mod answer;
 pub mod ask;

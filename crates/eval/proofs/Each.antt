@@ -1,50 +1,27 @@
 -- A query asked of each of a bag: what holds on the way.
-use Rattle.std.proofs.Common.{◌≡◌, ℕ, zero, suc, ◌+◌, ◌-◌, ◌*◌, ◌<◌, ◌≤◌, Bool, true, false, T, eqb, ◌⊎◌, List, [], ◌∷◌, length, get_or, Ok, Err, Result, sym, refl, ap, ◌∙◌, subst, inl, inr, mul-le-mul_right, arith}
-use Rattle.query.specs.Data.{Data, bag, left, right, Datas, none, more, pick}
-use Rattle.query.specs.Query.{Ty, a_bag, an_either, Query, table, it, env, just, default, either, Tables, table_at, Got, came, failed, adding, after, on_bag, on_either, is_empty, get_or_fail, each_of, keep_of, eval}
-use Rattle.query.specs.Types.{is_of, all_of, ty_at, type_of}
-use Rattle.query.proofs.OfType.{of_bag, of_either}
-use Rattle.query.proofs.Comes.{table_of}
-use Rattle.format.specs.Lists.{from}
-use Rattle.values.specs.Memory.{Kept, Used, Under, Grown, Run, Holds, HoldsAll, loaded}
+use Rattle.std.proofs.Common.{◌≡◌, ℕ, suc, ◌+◌, ◌-◌, ◌*◌, ◌<◌, ◌≤◌, true, T, ◌⊎◌, List, [], length, get_or, Ok, Err, Result, sym, refl, ap, ◌∙◌, subst, inl, inr, mul-le-mul_right, arith}
+use Rattle.query.specs.Data.{Data, bag, Datas, none, more}
+use Rattle.query.specs.Query.{Got, came, adding, after, each_of, eval}
+use Rattle.query.specs.Types.{all_of}
+use Rattle.values.specs.Memory.{Kept, Used, Under, Grown, Holds, HoldsAll, loaded}
 use Rattle.values.specs.declared.value.Place.{Place}
 use Rattle.values.specs.declared.value.Value.{Value}
-use Rattle.values.specs.declared.value.Value.TheVariants.{Bag, Left, Right}
-use Rattle.values.proofs.Frame.{kept_agree, kept_refl, holds_kept}
-use Rattle.guide.specs.Guide.{first_part, last_part}
-use Rattle.operators.specs.Applied.{Made1, op1, on_left, on_right, one_query, one_got, one_type, IsSingle, Made2, op2, all, where_same, two_query, two_got, two_type, IsJoint, price_of}
+use Rattle.values.specs.declared.value.Value.TheVariants.{Bag}
+use Rattle.values.proofs.Frame.{kept_agree, holds_kept}
 use Rattle.operators.specs.Means.{CameTo, Stopped, Means}
-use Rattle.operators.specs.Ready.{Fine, OneReady, Ones, TwoReady, Twos}
 use Rattle.operators.specs.declared.came.Came.{Came}
 use Rattle.operators.specs.declared.came.Stop.{Stop}
 use Rattle.operators.specs.declared.came.Stop.TheVariants.{Tired, NoRoom, Wrong}
-use Rattle.operators.specs.declared.op.Single.{Single}
-use Rattle.operators.specs.declared.op.Joint.{Joint}
-use Rattle.operators.specs.declared.op.Joint.TheVariants as jt
-use Rattle.operators.proofs.Grows.{grown_refl, under_grown}
-use Rattle.operators.proofs.Steps.{after_came, means_stop, means_then, means_paid, at_hand, stopped_adding}
-use Rattle.operators.proofs.Dues.{adding_zero, due_stop, due_then}
-use Rattle.eval.specs.Shaped.{Shaped, IsLeaf, over_query, place_in, empty_in, side_in}
-use Rattle.eval.specs.Ready.{Setting, World, Stands, Typed, Row, Held, Ready, Answers, LeafReady, LeafHolds, AtHand, EachReady, EachAnswers, KeepAnswers}
-use Rattle.literals.specs.Numbered.{thing_at, Numbered}
-use Rattle.eval.specs.declared.shape.Leaf.{Leaf}
-use Rattle.eval.specs.declared.shape.Leaf.TheVariants as lf
-use Rattle.eval.specs.declared.shape.Over.{Over}
-use Rattle.eval.specs.declared.shape.Over.TheVariants as ov
-use Rattle.eval.specs.declared.shape.Shape.TheVariants as sh
-use Rattle.eval.specs.declared.shape.Side.{Side}
-use Rattle.eval.proofs.Parts.{OnePart, one_part, only_told, only_within, only_short, only_stand, TwoParts, two_parts, over_parts, default_parts, either_parts, last_told, last_some, last_within, first_within, last_short, first_short, last_stand, first_stand}
-use Rattle.eval.proofs.Typing.{fine_result, result_of, one_typed, BothTyped, two_typed, default_typed, either_typed, ThenTyped, over_typed}
-use Rattle.eval.proofs.Frames.{held_later, one_of_row}
-use Rattle.eval.proofs.Seen.{Seen}
+use Rattle.operators.proofs.Steps.{after_came}
+use Rattle.operators.proofs.Dues.{adding_zero}
+use Rattle.eval.specs.Ready.{Setting, Ready, Answers, EachReady, EachAnswers}
 use mathlib.Core.Path.{fun_ext}
 use Rattle.query.specs.Data.{join, how_many}
 use Rattle.query.proofs.OfType.{first_of, rest_of}
 use Rattle.values.specs.Memory.{Stored, Agree}
 use Rattle.values.proofs.Frame.{kept_trans, stored_kept, all_kept}
-use Rattle.operators.specs.Means.{Comes, Short}
+use Rattle.operators.specs.Means.{Comes}
 use Rattle.operators.proofs.Grows.{grown_trans}
-use Rattle.operators.proofs.Pays.{pay_both, pay_one}
 use Rattle.operators.proofs.Steps.{after_failed, after_pays}
 use Rattle.operators.proofs.Dues.{adding_adding}
 use Rattle.values.proofs.Ranged.{ranged, ranged_old, ranged_split, run_ranged}

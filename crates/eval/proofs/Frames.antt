@@ -1,7 +1,7 @@
 -- What stays held where memory grows.
-use Rattle.std.proofs.Common.{◌≡◌, ℕ, zero, suc, ◌+◌, ◌*◌, ◌<◌, ◌≤◌, T, List, [], ◌∷◌, length, get_or, sym, refl, ap, ◌∙◌, subst, arith}
+use Rattle.std.proofs.Common.{◌≡◌, ℕ, zero, suc, ◌+◌, ◌*◌, ◌<◌, ◌≤◌, T, List, ◌∷◌, length, sym, ap, ◌∙◌, subst, arith}
 use Rattle.query.specs.Data.{Data, Datas, none, more, how_many}
-use Rattle.values.specs.Memory.{Kept, Agree, Used, Under, Grown, Run, Holds, HoldsAll, loaded}
+use Rattle.values.specs.Memory.{Kept, Agree, Used, Under, Grown, Holds, HoldsAll, loaded}
 use Rattle.values.specs.declared.value.Value.{Value}
 use Rattle.values.proofs.Frame.{kept_agree, holds_kept, all_kept}
 use Rattle.operators.proofs.Grows.{under_grown}

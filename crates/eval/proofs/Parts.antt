@@ -1,14 +1,14 @@
 -- Parts of a query: where they stand, how large they are, which names they have.
-use Rattle.std.proofs.Common.{◌≡◌, ℕ, suc, ◌+◌, ◌<◌, ◌≤◌, true, ◌&&◌, List, [], ◌∷◌, ◌++◌, length, get_or, take, drop, sym, refl, ap, ◌∙◌, subst, arith, length-append, length-drop, length-take}
+use Rattle.std.proofs.Common.{◌≡◌, ℕ, ◌+◌, ◌<◌, ◌≤◌, true, List, [], ◌∷◌, ◌++◌, length, get_or, drop, sym, refl, ap, ◌∙◌, arith, length-append, length-drop}
 use Rattle.std.proofs.lemmas.List.{drop-drop}
 use Rattle.query.specs.Data.{Name, one_of, Datas}
 use Rattle.query.specs.Query.{Op1, not_so, in_bag, flat, count, sum, distinct, dot, as_field, without, project, Query, default, either}
-use Rattle.query.specs.Size.{size_q, size_1}
+use Rattle.query.specs.Size.{size_q}
 use Rattle.query.proofs.Tests.{and_l, and_r, and_i}
-use Rattle.format.specs.Wire.{write_1, write_query, FitsQuery}
+use Rattle.format.specs.Wire.{write_1, write_query}
 use Rattle.format.specs.Lists.{from, from_drop}
 use Rattle.bounds.specs.Names.{query_names, op_names, names_in, all_in}
-use Rattle.guide.specs.Guide.{first_part, last_part, Guided}
+use Rattle.guide.specs.Guide.{first_part, last_part}
 use Rattle.guide.proofs.Shapes.{parts, single, pair}
 use Rattle.guide.proofs.Standing.{only_stands, first_stands, last_stands}
 use Rattle.operators.specs.Applied.{Made1, op1, on_left, on_right, one_query, Made2, op2, all, where_same, two_query}

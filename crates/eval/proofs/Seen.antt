@@ -1,5 +1,5 @@
 -- What a visit tells of the query that stands there.
-use Rattle.std.proofs.Common.{◌≡◌, ℕ, ◌+◌, ◌<◌, ◌≤◌, List, length, get_or, drop, Some, None, Option, sym, refl, ap, ◌∙◌, subst, arith, length-append, length-drop}
+use Rattle.std.proofs.Common.{◌≡◌, ℕ, ◌+◌, ◌<◌, List, length, get_or, Some, None, sym, ap, subst, arith, length-append, length-drop}
 use Rattle.query.specs.Data.{Datas}
 use Rattle.query.specs.Query.{Query}
 use Rattle.format.specs.Wire.{write_query}
@@ -8,9 +8,8 @@ use Rattle.guide.specs.Visits.{Visited, SaysLast}
 use Rattle.guide.specs.declared.Visit.{Visit}
 use Rattle.guide.proofs.Visiting.{guided_says}
 use Rattle.guide.proofs.Frame.{written_some}
-use Rattle.values.specs.declared.value.Value.{Value}
 use Rattle.eval.specs.Shaped.{Shaped, TellsShape}
-use Rattle.eval.specs.Ready.{Setting, Stands, Ready}
+use Rattle.eval.specs.Ready.{Setting, Stands}
 use Rattle.eval.specs.declared.shape.Shape.{Shape}
 
 abbrev pub Seen : Setting → List ℕ → ℕ → Shape → ℕ → Type 0

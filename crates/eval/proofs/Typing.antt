@@ -1,12 +1,12 @@
 -- Types of a query's parts, and what is known of what they come to.
-use Rattle.std.proofs.Common.{◌≡◌, ℕ, suc, ◌+◌, ◌*◌, ◌<◌, ◌≤◌, max, true, ◌&&◌, List, [], ◌∷◌, ◌++◌, length, sym, refl, ap, ◌∙◌, subst, arith}
+use Rattle.std.proofs.Common.{◌≡◌, ℕ, ◌+◌, ◌*◌, ◌≤◌, true, List, [], ◌∷◌, length, sym, refl, ap, ◌∙◌, subst, arith}
 use Rattle.query.specs.Data.{Name, Data}
-use Rattle.query.specs.Query.{Ty, Tys, a_truth, a_bag, an_either, Query, each, keep, default, either, then, with_env, eval}
-use Rattle.query.specs.Types.{Sides, same_ty, sound, is_of, elem, sides_of, get_ty, on_ty, if_so, fields_in, type1, type2, Schema, type_of}
+use Rattle.query.specs.Query.{Ty, a_truth, a_bag, an_either, Query, default, either, eval}
+use Rattle.query.specs.Types.{Sides, same_ty, sound, is_of, elem, sides_of, on_ty, if_so, fields_in, type2, Schema, type_of}
 use Rattle.query.specs.Size.{size_q}
 use Rattle.query.proofs.Tests.{and_l, and_r}
 use Rattle.query.proofs.OneType.{type_one}
-use Rattle.query.proofs.TypeParts.{on_ty_out, if_so_out, elem_out, sides_out}
+use Rattle.query.proofs.TypeParts.{on_ty_out, elem_out, sides_out}
 use Rattle.query.proofs.SoundTypes.{type_sound}
 use Rattle.query.proofs.Comes.{comes}
 use Rattle.values.specs.Height.{height_ty}
@@ -17,7 +17,7 @@ use Rattle.eval.specs.Shaped.{over_query}
 use Rattle.eval.specs.Ready.{World, Typed}
 use Rattle.eval.specs.declared.shape.Over.{Over}
 use Rattle.eval.specs.declared.shape.Over.TheVariants as ov
-use Rattle.eval.proofs.Parts.{OnePart, one_part, TwoParts, two_parts, over_parts, default_parts, either_parts}
+use Rattle.eval.proofs.Parts.{one_part, TwoParts, two_parts, over_parts, default_parts, either_parts}
 use Rattle.bounds.proofs.TypeHeights.{type_no_deeper}
 use Rattle.bounds.proofs.TypeNames.{stays_named}
 

@@ -1,17 +1,17 @@
 -- What working out a query is given, and what an outcome tells of it.
-use Rattle.std.specs.Prelude.{◌≡◌, ℕ, zero, suc, ◌+◌, ◌*◌, ◌<◌, ◌≤◌, true, List, [], ◌∷◌, ◌++◌, length, get_or, drop, Result}
-use Rattle.query.specs.Data.{Name, Data, bag, Datas, none, more, how_many}
-use Rattle.query.specs.Query.{Ty, Query, table, it, env, just, two, one, each, keep, product, matched, default, as_left, as_right, either, then, with_env, Tables, Got, came, eval, each_of, keep_of}
+use Rattle.std.specs.Prelude.{◌≡◌, ℕ, ◌+◌, ◌*◌, ◌≤◌, true, List, [], ◌∷◌, ◌++◌, length, drop, Result}
+use Rattle.query.specs.Data.{Name, Data, bag, Datas, how_many}
+use Rattle.query.specs.Query.{Ty, Query, Tables, Got, came, eval, each_of, keep_of}
 use Rattle.query.specs.Types.{is_of, all_of, Schema, type_of, tables_are}
 use Rattle.query.specs.Size.{size_q, all_sound}
 use Rattle.format.specs.Wire.{write_query, FitsQuery}
 use Rattle.format.specs.Heads.{as_datas}
-use Rattle.values.specs.Memory.{Used, Under, Run, Holds, HoldsAll, loaded}
+use Rattle.values.specs.Memory.{Used, Under, Run, Holds, HoldsAll}
 use Rattle.values.specs.declared.value.Place.{Place}
 use Rattle.values.specs.declared.value.Value.{Value}
 use Rattle.bounds.specs.Names.{query_names, all_in, schema_named, schema_height}
-use Rattle.guide.specs.Guide.{first_part, last_part, Guided}
-use Rattle.literals.specs.Numbered.{thing_at, Numbered}
+use Rattle.guide.specs.Guide.{Guided}
+use Rattle.literals.specs.Numbered.{Numbered}
 use Rattle.operators.specs.Means.{Means}
 use Rattle.operators.specs.Ready.{Fine}
 use Rattle.operators.specs.declared.came.Came.{Came}

@@ -1,4 +1,6 @@
 // Working out a query over values in lent memory, within a budget.
+#![tactic(auto)]
+
 pub mod scene;
 pub mod shape;
 pub mod work;

@@ -1,7 +1,7 @@
 -- Three lots of grain and what each weighs: two tables, their schema, eight questions and what seven of them come to.
-use Rattle.std.specs.Prelude.{List, [], ◌∷◌, Bool, ℕ, codes}
+use Rattle.std.specs.Prelude.{[], ◌∷◌, Bool, ℕ, codes}
 use Rattle.query.specs.Data.{Name, Data, num, text, bag, rec, Datas, none, more, no_field, field}
-use Rattle.query.specs.Query.{equal, join_recs, sum, distinct, dot, as_field, Ty, a_num, a_text, a_bag, a_rec, no_ty, ty, Query, table, it, env, just, two, one, each, keep, product, matched, with_env, Tables}
+use Rattle.query.specs.Query.{equal, join_recs, sum, distinct, dot, as_field, a_num, a_text, a_bag, a_rec, no_ty, ty, Query, table, it, env, just, two, one, each, keep, product, matched, with_env, Tables}
 use Rattle.query.specs.Types.{Schema, type_asked}
 use Rattle.query.specs.Size.{some_ty}
 

@@ -1,4 +1,6 @@
 // Three lots of grain: what questions about them come to and how much is looked at. Each function's contract says it of the definitions, and is proved by working it out.
+#![tactic(auto)]
+
 ghost use Rattle.std.specs.Prelude.{◌≡◌};
 ghost use Rattle.query.specs.Data.{num};
 ghost use Rattle.query.specs.Query.{came, asked};

@@ -1,5 +1,5 @@
 -- Names and counted runs, from what was read of their counts.
-use Rattle.std.proofs.Common.{◌≡◌, ℕ, zero, suc, ◌+◌, ◌-◌, ◌^◌, ◌<◌, ◌≤◌, true, List, [], ◌∷◌, ◌++◌, length, take, drop, replicate, sym, refl, ap, ◌∙◌, subst, arith, length-drop, length-take-le}
+use Rattle.std.proofs.Common.{◌≡◌, ℕ, ◌+◌, ◌-◌, ◌<◌, ◌≤◌, true, List, length, take, drop, replicate, subst, arith, length-drop, length-take-le}
 use lib.ListN.{length-replicate}
 use Rattle.query.specs.Types.{bytes}
 use Rattle.format.specs.Coding.{Coding, number, raw, name, many, counted, Inhabited}

@@ -1,5 +1,5 @@
 -- One thing and then another, from what was read of each.
-use Rattle.std.proofs.Common.{◌≡◌, ℕ, ◌+◌, ◌-◌, ◌<◌, ◌≤◌, List, [], ◌∷◌, ◌++◌, length, take, drop, sym, refl, ap, ◌∙◌, subst, length-take-le}
+use Rattle.std.proofs.Common.{◌≡◌, ℕ, ◌+◌, List, length, sym, ap, ◌∙◌, subst, length-take-le}
 use Rattle.format.specs.Coding.{Coding, both_of, Inhabited}
 use Rattle.format.specs.Reading.{Begins, Stuck, OneWay}
 use Rattle.format.specs.Lists.{from, from_drop}

@@ -1,5 +1,5 @@
 -- Where the parts of a request stand.
-use Rattle.std.proofs.Common.{◌≡◌, ℕ, ◌+◌, ◌-◌, ◌<◌, ◌≤◌, List, [], ◌∷◌, ◌++◌, length, take, drop, sym, refl, ap, ◌∙◌, subst, arith, length-append, length-drop, drop-drop}
+use Rattle.std.proofs.Common.{◌≡◌, ℕ, ◌+◌, ◌≤◌, List, ◌++◌, length, drop, sym, refl, ap, ◌∙◌, subst, arith, length-append, length-drop, drop-drop}
 use Rattle.std.proofs.lemmas.List.{append_assoc}
 use Rattle.format.specs.Coding.{Coding, le, writes, many, counted}
 use Rattle.format.specs.Reading.{Begins}

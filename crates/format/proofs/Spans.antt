@@ -1,9 +1,9 @@
 -- What has been read of so many trees, and how many are still to come: the invariant of the scan.
-use Rattle.std.proofs.Common.{◌≡◌, ℕ, zero, suc, ◌+◌, ◌-◌, ◌*◌, ◌^◌, ◌<◌, ◌≤◌, List, [], ◌∷◌, ◌++◌, length, take, drop, sym, refl, ap, ◌∙◌, subst, ap₂, arith, length-append, length-drop, take-add}
+use Rattle.std.proofs.Common.{◌≡◌, ℕ, zero, suc, ◌+◌, ◌-◌, ◌<◌, ◌≤◌, List, [], ◌∷◌, ◌++◌, length, take, drop, sym, refl, ap, ◌∙◌, subst, arith, length-drop, take-add}
 use Rattle.std.proofs.lemmas.List.{append_assoc, append-nil}
-use Rattle.format.specs.Coding.{Coding, writes, AllFit, many}
-use Rattle.format.specs.Reading.{Begins, Read, NoneInFront, Stuck, Reads, Opens, Closed, Opened, Unopened}
-use Rattle.format.specs.Lists.{none_of, split_at}
+use Rattle.format.specs.Coding.{Coding, writes, many}
+use Rattle.format.specs.Reading.{Begins, Read, NoneInFront, Stuck, Reads, Opens, Opened, Unopened}
+use Rattle.format.specs.Lists.{split_at}
 use Rattle.format.specs.Trees.{same_reads}
 
 -- to read c trees is to read hs, and then n trees

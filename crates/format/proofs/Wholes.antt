@@ -1,5 +1,5 @@
 -- All of the bytes as one thing: a head, and what the scan found after it.
-use Rattle.std.proofs.Common.{◌≡◌, ℕ, ◌+◌, ◌<◌, ◌≤◌, List, length, take, drop, sym, ap, ◌∙◌, subst, arith}
+use Rattle.std.proofs.Common.{ℕ, ◌+◌, ◌<◌, ◌≤◌, List, length, sym, ◌∙◌, subst}
 use Rattle.std.proofs.lemmas.List.{take_all}
 use Rattle.format.specs.Coding.{Coding, many}
 use Rattle.format.specs.Reading.{Read, Stuck, Opened, Whole, Garbled, OneWay}

@@ -1,11 +1,11 @@
 -- Codings made of others: one thing and then what it announces. Reading, getting stuck and one way only, from those of the parts.
-use Rattle.std.specs.Prelude.{◌≡◌, ℕ, zero, suc, ◌+◌, ◌-◌, ◌*◌, ◌^◌, ◌<◌, ◌≤◌, true, List, [], ◌∷◌, ◌++◌, length, take, drop, replicate, ◌≢◌, slice_index, refl}
-use Rattle.std.proofs.Common.{sym, ap, ap₂, subst, ◌∙◌, arith, length-append, length-drop, take-add, drop-drop, length-take-le}
-use Rattle.std.proofs.lemmas.List.{append_assoc, append-nil, take-append-drop, drop_more, drop_all, take_all, length-replicate}
+use Rattle.std.specs.Prelude.{◌≡◌, ℕ, ◌+◌, ◌-◌, ◌^◌, ◌<◌, ◌≤◌, true, List, [], ◌∷◌, ◌++◌, length, take, drop, replicate, ◌≢◌, slice_index, refl}
+use Rattle.std.proofs.Common.{sym, ap, ap₂, subst, ◌∙◌, arith, length-append, length-drop, take-add, length-take-le}
+use Rattle.std.proofs.lemmas.List.{append_assoc, append-nil, drop_more, take_all, length-replicate}
 use Rattle.query.specs.Types.{bytes}
-use Rattle.format.specs.Coding.{Coding, le, number, tag, raw, name, writes, AllFit, many, counted, both_of}
-use Rattle.format.specs.Reading.{Begins, Read, NoneInFront, Stuck, OneWay, Whole, NotWhole, Garbled, OnePlace}
-use Rattle.format.specs.Lists.{append_same, split_at, bytes_drop, bytes_take, bytes_append, bytes_zeros}
+use Rattle.format.specs.Coding.{Coding, le, number, tag, raw, name, writes, many, counted, both_of}
+use Rattle.format.specs.Reading.{Begins, NoneInFront, Stuck, OneWay, NotWhole, Garbled, OnePlace}
+use Rattle.format.specs.Lists.{append_same, split_at, bytes_take, bytes_append, bytes_zeros}
 use Rattle.format.specs.Bytes.{length_le, le_same, pad}
 
 -- a thing of C is a thing of A and then one of B

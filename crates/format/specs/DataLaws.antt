@@ -1,17 +1,17 @@
 -- Data are trees, and their heads are told by their tags.
-use Rattle.std.specs.Prelude.{◌≡◌, ℕ, zero, suc, ◌+◌, ◌^◌, ◌<◌, ◌≤◌, Bool, true, false, List, [], ◌∷◌, ◌++◌, length, slice_index, refl}
+use Rattle.std.specs.Prelude.{◌≡◌, ℕ, suc, ◌+◌, ◌^◌, ◌<◌, ◌≤◌, true, false, List, [], ◌∷◌, ◌++◌, length, slice_index, refl}
 use Rattle.std.proofs.Common.{sym, ap, ap₂, subst, ◌∙◌, arith}
-use Rattle.std.proofs.lemmas.List.{append_assoc, append-nil}
+use Rattle.std.proofs.lemmas.List.{append-nil}
 use Rattle.query.specs.Data.{Name, Data, unit, num, truth, text, bag, rec, left, right, Datas, none, more, Fields, no_field, field, how_many}
-use Rattle.format.specs.Coding.{Coding, le, number, name, writes, AllFit, many, counted}
+use Rattle.format.specs.Coding.{le, number, name, writes, AllFit, many, counted}
 use Rattle.format.specs.Wire.{names, write_names, truth_tag, write_data, write_datas, write_values, FitsData, FitsDatas, FitsValues, data_of}
 use Rattle.format.specs.Heads.{as_datas, as_fields, DataHead, unit_h, num_h, truth_h, text_h, bag_h, rec_h, left_h, right_h, write_data_head, FitsDataHead, data_heads, data_arity, first_datum, build_data}
 use Rattle.query.specs.Types.{bytes}
-use Rattle.format.specs.Reading.{OneWay, Begins, Stuck}
+use Rattle.format.specs.Reading.{Begins, Stuck}
 use Rattle.format.specs.Nodes.{NodeRead, TellsData}
 use Rattle.format.specs.declared.node.DataNode.{DataNode}
 use Rattle.format.specs.Lists.{bytes_none, from}
-use Rattle.format.specs.Codings.{Splits, Out, number_way, name_way}
+use Rattle.format.specs.Codings.{Out, number_way, name_way}
 use Rattle.format.specs.Trees.{Laws}
 use Rattle.format.specs.Tags.{Table, end, row, alone, entry, Good, Tagged, plain_way, heads_way, heads_long, node_alone, node_begins, head_stuck, stuck_tag, stuck_empty}
 use Rattle.format.specs.NameLaws.{names_way}

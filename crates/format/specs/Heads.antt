@@ -1,8 +1,8 @@
 -- Heads: what stands at the front of a datum, a type or a query before its parts, and what the code's nodes say of them.
-use Rattle.std.specs.Prelude.{◌≡◌, ℕ, zero, suc, ◌+◌, ◌^◌, ◌<◌, Bool, true, false, List, [], ◌∷◌, ◌++◌, length, take, drop}
+use Rattle.std.specs.Prelude.{ℕ, ◌^◌, ◌<◌, Bool, List, [], ◌∷◌, ◌++◌, length}
 use Rattle.query.specs.Data.{Name, Data, unit, num, truth, text, bag, rec, left, right, Datas, none, more, Fields, no_field, field}
 use Rattle.query.specs.Query.{Op2, Op1, Ty, a_unit, a_num, a_truth, a_text, a_bag, a_rec, an_either, Tys, no_ty, ty, Query, table, it, env, just, two, one, each, keep, product, matched, default, as_left, as_right, either, then, with_env}
-use Rattle.format.specs.Coding.{Coding, le, name, counted}
+use Rattle.format.specs.Coding.{Coding, le, name}
 use Rattle.format.specs.Wire.{write_names, FitNames, write_ty, FitsTy, write_data, FitsData, truth_tag, tag_2, write_1, Fits1}
 
 -- lists of things as the definitions have them

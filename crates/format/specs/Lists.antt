@@ -1,8 +1,8 @@
 -- Lists taken apart, and lists of bytes.
-use Rattle.std.specs.Prelude.{◌≡◌, ℕ, zero, suc, ◌+◌, ◌-◌, ◌<◌, ◌≤◌, Bool, true, false, ◌&&◌, List, [], ◌∷◌, ◌++◌, length, take, drop, replicate, nat_lt, slice_index, refl}
-use Rattle.std.proofs.Common.{sym, ap, ap₂, subst, ◌∙◌, arith, Fits, length-drop, take-add, drop-drop, length-take-le, ltb-true, lt-ltb}
+use Rattle.std.specs.Prelude.{◌≡◌, ℕ, zero, suc, ◌-◌, ◌<◌, ◌≤◌, Bool, true, false, ◌&&◌, List, [], ◌∷◌, ◌++◌, length, take, drop, replicate, nat_lt, slice_index, refl}
+use Rattle.std.proofs.Common.{sym, ap, ap₂, ◌∙◌, arith, Fits, ltb-true, lt-ltb}
 use Rattle.std.specs.Int.{w8}
-use Rattle.std.proofs.lemmas.List.{take-append-drop, take_rest, drop_more}
+use Rattle.std.proofs.lemmas.List.{take-append-drop, take_rest}
 use Rattle.query.specs.Types.{bytes}
 
 -- two fronts of one length

@@ -1,18 +1,18 @@
 -- Queries are trees, and their heads are told by their tags.
-use Rattle.std.specs.Prelude.{◌≡◌, ℕ, zero, suc, ◌+◌, ◌^◌, ◌<◌, ◌≤◌, true, List, [], ◌∷◌, ◌++◌, length, take, slice_index, refl}
-use Rattle.std.proofs.Common.{sym, ap, ap₂, subst, ◌∙◌, arith}
-use Rattle.std.proofs.lemmas.List.{append_assoc, append-nil, drop_more}
-use Rattle.query.specs.Data.{Name, Data, unit}
+use Rattle.std.specs.Prelude.{◌≡◌, ℕ, ◌+◌, ◌^◌, ◌<◌, ◌≤◌, true, List, [], ◌∷◌, ◌++◌, length, take, slice_index, refl}
+use Rattle.std.proofs.Common.{sym, ap, ◌∙◌, arith}
+use Rattle.std.proofs.lemmas.List.{append-nil, drop_more}
+use Rattle.query.specs.Data.{Name, unit}
 use Rattle.query.specs.Query.{Op2, equal, and, or, plus, less, join_bags, join_recs, within, Op1, not_so, in_bag, flat, count, sum, distinct, dot, as_field, without, project, Ty, a_unit, Query, table, it, env, just, two, one, each, keep, product, matched, default, as_left, as_right, either, then, with_env}
-use Rattle.format.specs.Coding.{Coding, le, number, name, writes, AllFit, many, counted, both_of}
-use Rattle.format.specs.Wire.{write_names, write_ty, FitsTy, write_data, FitsData, tag_2, write_1, Fits1, write_query, FitsQuery, types, data_of, queries}
+use Rattle.format.specs.Coding.{le, number, name, writes, AllFit, many, counted, both_of}
+use Rattle.format.specs.Wire.{write_ty, FitsTy, write_data, FitsData, tag_2, write_1, Fits1, write_query, FitsQuery, types, data_of, queries}
 use Rattle.format.specs.Heads.{QueryHead, table_q, it_q, env_q, just_q, two_q, one_q, each_q, keep_q, product_q, matched_q, default_q, left_q, right_q, either_q, then_q, with_env_q, write_query_head, FitsQueryHead, query_heads, query_arity, first_query, second_query, build_query, ty_heads, ty_arity, data_heads, data_arity}
 use Rattle.query.specs.Types.{bytes}
 use Rattle.format.specs.Reading.{OneWay, Begins, Stuck}
 use Rattle.format.specs.Nodes.{NodeRead, TellsQuery, PlainHead}
 use Rattle.format.specs.declared.node.QueryNode.{QueryNode}
 use Rattle.format.specs.Lists.{bytes_none, from}
-use Rattle.format.specs.Codings.{Splits, Out, number_way, name_way, way_both, both_splits}
+use Rattle.format.specs.Codings.{Out, number_way, name_way, way_both, both_splits}
 use Rattle.format.specs.Trees.{Laws, tree_way}
 use Rattle.format.specs.Tags.{Table, end, row, alone, entry, Entry, Good, GoodEntry, Tagged, plain_way, heads_way, heads_long, node_alone, node_begins, head_stuck, stuck_tag, stuck_empty}
 use Rattle.format.specs.NameLaws.{names_way}

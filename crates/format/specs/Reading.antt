@@ -1,5 +1,5 @@
 -- What it is to read things from bytes, and what it is that bytes cannot be read.
-use Rattle.std.specs.Prelude.{◌≡◌, ℕ, zero, suc, ◌+◌, ◌^◌, ◌<◌, ◌≤◌, List, [], ◌∷◌, ◌++◌, length, take, ◌≢◌}
+use Rattle.std.specs.Prelude.{◌≡◌, ℕ, suc, ◌+◌, ◌^◌, ◌<◌, ◌≤◌, List, [], ◌++◌, length, take, ◌≢◌}
 use Rattle.query.specs.Promise.{Asked, plan, ask, garbled}
 use Rattle.format.specs.Coding.{Coding, writes, AllFit}
 use Rattle.format.specs.Wire.{Request, to_ask, to_plan, lent_with, write_request, FitsRequest, requests}

@@ -1,21 +1,19 @@
 -- Requests: told by their tags, read in one way only; what bytes ask is one thing.
-use Rattle.std.specs.Prelude.{◌≡◌, ℕ, zero, suc, ◌+◌, ◌^◌, ◌<◌, ◌≤◌, true, List, [], ◌∷◌, ◌++◌, length, drop, slice_index, refl}
-use Rattle.std.proofs.Common.{sym, ap, ap₂, subst, ◌∙◌}
+use Rattle.std.specs.Prelude.{◌≡◌, ℕ, ◌+◌, ◌<◌, ◌≤◌, true, List, [], length, drop, slice_index, refl}
+use Rattle.std.proofs.Common.{sym, ap, subst, ◌∙◌}
 use native.Mathlib.Omega.{arith}
-use Rattle.std.proofs.lemmas.List.{append_assoc, append-nil}
-use Rattle.query.specs.Data.{Data}
-use Rattle.query.specs.Query.{Ty, Query, it, Tables}
-use Rattle.query.specs.Types.{Schema}
+use Rattle.std.proofs.lemmas.List.{append-nil}
+use Rattle.query.specs.Query.{it}
 use Rattle.query.specs.Promise.{Asked, plan, ask, garbled}
-use Rattle.format.specs.Coding.{Coding, le, number, writes, counted, both_of, Inhabited}
-use Rattle.format.specs.Wire.{write_query, FitsQuery, types, data_of, queries, Request, to_ask, to_plan, lent_with, write_request, FitsRequest, requests}
+use Rattle.format.specs.Coding.{number, counted, Inhabited}
+use Rattle.format.specs.Wire.{FitsQuery, types, data_of, queries, Request, to_ask, to_plan, lent_with, write_request, FitsRequest, requests}
 use Rattle.format.specs.Nodes.{ask_tail, ask_body, ask_load, plan_load, TellsRequest, Requested}
 use Rattle.format.specs.declared.node.Request.{Request as Node}
 use Rattle.query.specs.Types.{bytes}
 use Rattle.format.specs.Lists.{from, split_at}
 use Rattle.format.specs.Heads.{ty_heads, ty_arity, data_heads, data_arity}
-use Rattle.format.specs.Reading.{OneWay, Begins, Stuck, ReadAs, Whole, Garbled, Asks, ReadBack, AsksOne}
-use Rattle.format.specs.Codings.{Splits, Out, number_way, way_both, both_splits, one_place}
+use Rattle.format.specs.Reading.{OneWay, Begins, Stuck, ReadAs, Whole, Asks, ReadBack, AsksOne}
+use Rattle.format.specs.Codings.{number_way, way_both, both_splits, one_place}
 use Rattle.format.specs.Trees.{Laws, counted_way}
 use Rattle.format.specs.Tags.{Table, end, row, entry, Good, Tagged, heads_way, heads_long, head_begins, head_stuck, stuck_tag, stuck_empty}
 use Rattle.format.specs.NameLaws.{no_parts, alone_laws}

@@ -1,14 +1,13 @@
 -- Heads by their tag: a table with, for each tag from 0 on, what follows it and which head that is.
-use Rattle.std.specs.Prelude.{◌≡◌, ℕ, zero, suc, ◌+◌, ◌-◌, ◌*◌, ◌^◌, ◌<◌, ◌≤◌, true, List, [], ◌∷◌, ◌++◌, length, slice_index, refl}
-use Rattle.std.proofs.Common.{sym, ap, ap₂, ◌∙◌, arith, length-append}
+use Rattle.std.specs.Prelude.{◌≡◌, ℕ, zero, suc, ◌+◌, ◌^◌, ◌<◌, ◌≤◌, true, List, [], ◌∷◌, ◌++◌, length, slice_index, refl}
+use Rattle.std.proofs.Common.{sym, ap, ◌∙◌, arith, length-append}
 use Rattle.std.proofs.Math.Path.{subst}
-use Rattle.std.proofs.lemmas.List.{append_assoc, append-nil}
 use Rattle.query.specs.Types.{bytes}
 use Rattle.format.specs.Coding.{Coding, tag}
 use Rattle.format.specs.Reading.{Begins, NoneInFront, Stuck, OneWay}
 use Rattle.format.specs.Nodes.{NodeRead}
 use Rattle.format.specs.Lists.{from, from_drop}
-use Rattle.format.specs.Codings.{Splits, begins_both, stuck_first, stuck_second, way_both, tag_way, tag_begins, tag_stuck}
+use Rattle.format.specs.Codings.{Splits, begins_both, stuck_second, way_both, tag_way, tag_begins}
 
 -- nothing follows
 abbrev pub plain : Coding

@@ -1,11 +1,11 @@
 -- Trees: a head, and then as many trees as the head announces. What opens one, what cannot, and that they are read in one way only.
-use Rattle.std.specs.Prelude.{◌≡◌, ℕ, zero, suc, ◌+◌, ◌-◌, ◌*◌, ◌^◌, ◌<◌, ◌≤◌, List, [], ◌∷◌, ◌++◌, length, take, drop, replicate, refl}
+use Rattle.std.specs.Prelude.{◌≡◌, ℕ, zero, suc, ◌+◌, ◌^◌, ◌<◌, ◌≤◌, List, [], ◌∷◌, ◌++◌, length, take, drop, replicate, refl}
 use Rattle.std.proofs.Common.{sym, ap, ap₂, subst, ◌∙◌, arith, length-append}
 use Rattle.std.proofs.lemmas.List.{append_assoc, append-nil, length-replicate}
 use Rattle.format.specs.Coding.{Coding, number, writes, AllFit, many, counted, Inhabited}
-use Rattle.format.specs.Reading.{Begins, Read, NoneInFront, Stuck, OneWay, Reads, Opens, Closed, Opened, Unopened}
+use Rattle.format.specs.Reading.{Begins, NoneInFront, Stuck, OneWay, Reads, Opens, Closed, Opened, Unopened}
 use Rattle.format.specs.Nodes.{NodeRead}
-use Rattle.format.specs.Lists.{append_same, none_of, split_at}
+use Rattle.format.specs.Lists.{append_same, split_at}
 use Rattle.format.specs.Codings.{Splits, way_both, number_way, counted_splits}
 
 -- what is to be shown of a sort of tree S with heads H

@@ -1,18 +1,18 @@
 -- Types are trees, and their heads are told by their tags.
-use Rattle.std.specs.Prelude.{◌≡◌, ℕ, zero, suc, ◌+◌, ◌^◌, ◌<◌, ◌≤◌, true, List, [], ◌∷◌, ◌++◌, length, slice_index, refl}
-use Rattle.std.proofs.Common.{sym, ap, ap₂, subst, ◌∙◌, arith}
-use Rattle.std.proofs.lemmas.List.{append_assoc, append-nil}
+use Rattle.std.specs.Prelude.{◌≡◌, ℕ, suc, ◌+◌, ◌^◌, ◌<◌, ◌≤◌, true, List, [], ◌∷◌, ◌++◌, length, slice_index, refl}
+use Rattle.std.proofs.Common.{sym, ap, ap₂, subst, arith}
+use Rattle.std.proofs.lemmas.List.{append-nil}
 use Rattle.query.specs.Data.{Name}
 use Rattle.query.specs.Query.{Ty, a_unit, a_num, a_truth, a_text, a_bag, a_rec, an_either, Tys, no_ty, ty}
-use Rattle.format.specs.Coding.{Coding, le, name, writes, AllFit, many, counted}
+use Rattle.format.specs.Coding.{name, writes, AllFit, many, counted}
 use Rattle.format.specs.Wire.{names_ty, write_names, write_ty, write_tys, FitsTy, FitsTys, types}
 use Rattle.format.specs.Heads.{as_tys, TyHead, unit_t, num_t, truth_t, text_t, bag_t, rec_t, either_t, write_ty_head, FitsTyHead, ty_heads, ty_arity, first_ty_of, second_ty_of, build_ty}
 use Rattle.query.specs.Types.{bytes}
-use Rattle.format.specs.Reading.{OneWay, Begins, Stuck}
+use Rattle.format.specs.Reading.{Begins, Stuck}
 use Rattle.format.specs.Nodes.{NodeRead, TellsType}
 use Rattle.format.specs.declared.node.TypeNode.{TypeNode}
 use Rattle.format.specs.Lists.{from}
-use Rattle.format.specs.Codings.{Splits, Out}
+use Rattle.format.specs.Codings.{Out}
 use Rattle.format.specs.Trees.{Laws}
 use Rattle.format.specs.Tags.{Table, end, row, alone, entry, Good, Tagged, plain_way, heads_way, heads_long, node_alone, node_begins, head_stuck, stuck_tag, stuck_empty}
 use Rattle.format.specs.NameLaws.{names_way}

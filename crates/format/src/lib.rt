@@ -1,4 +1,6 @@
 // The byte format: numbers, names, and the heads of data, types, queries and requests, read from bytes of any length.
+#![tactic(auto)]
+
 pub mod data;
 pub mod laws;
 pub mod name;

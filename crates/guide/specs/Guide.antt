@@ -1,5 +1,5 @@
 -- A guide to a query's bytes: for each place at which a part of it begins, where the last part of that begins.
-use Rattle.std.specs.Prelude.{◌≡◌, ℕ, ◌+◌, ◌<◌, ◌≤◌, List, ◌++◌, length, slice_index}
+use Rattle.std.specs.Prelude.{◌≡◌, ℕ, ◌+◌, List, ◌++◌, length, slice_index}
 use Rattle.query.specs.Query.{Query, table, it, env, just, two, one, each, keep, product, matched, default, as_left, as_right, either, then, with_env}
 use Rattle.format.specs.Coding.{name}
 use Rattle.format.specs.Wire.{write_ty, write_1, write_query}

@@ -1,4 +1,6 @@
 // A guide to a query's bytes: written once over all of them, it lets each query in them be visited without scanning what stands before its parts.
+#![tactic(auto)]
+
 ghost use Rattle.std.specs.Prelude.{◌≡◌, ◌-◌, MatchOption};
 ghost use Rattle.format.specs.Nodes.{NotOperator};
 ghost use Rattle.guide.specs.Marks.{Marked, Noted};

@@ -1,5 +1,5 @@
 -- All that a query writes out: numbered, and then loaded.
-use Rattle.std.proofs.Common.{◌≡◌, ℕ, ◌+◌, ◌*◌, ◌<◌, ◌≤◌, List, [], length, Some, None, refl, subst, arith}
+use Rattle.std.proofs.Common.{◌≡◌, ℕ, ◌+◌, ◌*◌, ◌<◌, ◌≤◌, List, length, Some, None, refl, subst, arith}
 use Rattle.query.specs.Data.{Datas, none, join, how_many}
 use Rattle.values.specs.Memory.{HoldsAll, Run}
 use Rattle.values.specs.declared.value.Place.{Place}

@@ -1,22 +1,20 @@
 -- A bag, loaded thing by thing: what holds on the way.
-use Rattle.std.proofs.Common.{◌≡◌, ℕ, zero, suc, ◌+◌, ◌-◌, ◌*◌, ◌<◌, ◌≤◌, true, List, length, Some, None, Option, sym, refl, ap, ◌∙◌, subst, arith}
-use Rattle.query.specs.Data.{Data, bag, Datas, none, more, join, how_many}
-use Rattle.query.specs.Query.{Ty, a_bag}
+use Rattle.std.proofs.Common.{◌≡◌, ℕ, suc, ◌+◌, ◌-◌, ◌*◌, ◌<◌, ◌≤◌, true, List, length, Some, None, Option, sym, refl, ap, ◌∙◌, subst, arith}
+use Rattle.query.specs.Data.{bag, Datas, none, more, join, how_many}
+use Rattle.query.specs.Query.{Ty}
 use Rattle.query.specs.Types.{is_of, all_of}
 use Rattle.query.specs.Size.{size_d, size_ds}
 use Rattle.format.specs.Wire.{write_data, write_datas, write_ty, FitsTy, FitsData, FitsDatas, data_of, types}
 use Rattle.format.specs.Nodes.{Stands}
-use Rattle.values.specs.Memory.{Kept, Stored, Used, Under, Grown, Run, Holds, HoldsAll}
-use Rattle.values.specs.declared.value.Value.{Value}
+use Rattle.values.specs.Memory.{Kept, Stored, Holds, HoldsAll}
 use Rattle.values.specs.declared.value.Value.TheVariants.{Bag}
 use Rattle.values.proofs.Frame.{kept_refl, kept_trans, stored_kept}
 use Rattle.loading.specs.declared.loaded.Loaded.{Loaded}
 use Rattle.loading.specs.declared.loaded.Part.TheVariants as pt
 use Rattle.loading.specs.Fronts.{Tells}
-use Rattle.loading.specs.Loads.{Ready, LoadedAs, Comes, Loads, LoadsPart, LiesInside}
+use Rattle.loading.specs.Loads.{Ready, Comes, Loads, LoadsPart, LiesInside}
 use Rattle.loading.proofs.Spots.{At, at_stands, stands_at, at_same}
-use Rattle.loading.proofs.Words.{grown_refl}
-use Rattle.loading.proofs.Rows.{join_none, join_one, many_size, Filling, Filled, fill_none, fill_under, fill_all, fill_more}
+use Rattle.loading.proofs.Rows.{join_none, join_one, many_size, Filling, fill_none, fill_under, fill_all, fill_more}
 use Rattle.loading.proofs.Typed.{BagOf, bag_of, First, first, none_left}
 
 thrift : (high i top count : ℕ) (es ds : Datas) → es ≡ none → high + 5 * size_ds es + 3 * i ≤ top + 3 * count + 5 * size_ds ds → i ≡ count → high + 3 ≤ top + 5 * suc (size_ds ds)

@@ -1,8 +1,7 @@
 -- Fields that were reserved in a row, and are filled one by one.
-use Rattle.std.proofs.Common.{◌≡◌, ℕ, zero, suc, ◌+◌, ◌-◌, ◌*◌, ◌<◌, ◌≤◌, T, ◌⊎◌, List, [], ◌∷◌, length, get_or, sym, refl, ap, ◌∙◌, subst, inl, inr, arith}
+use Rattle.std.proofs.Common.{◌≡◌, ℕ, suc, ◌+◌, ◌*◌, ◌<◌, ◌≤◌, ◌⊎◌, List, get_or, sym, refl, ap, subst, inl, inr, arith}
 use Rattle.query.specs.Data.{Name, Data, Fields, no_field, field}
 use Rattle.values.specs.Memory.{Kept, StoredField, Used, Under, Grown, Run, Spelled, Holds, HoldsFields, Agree, loaded, loaded_field}
-use Rattle.values.specs.declared.value.Value.{Value}
 use Rattle.values.specs.declared.value.Field.{Field}
 use Rattle.values.proofs.Frame.{kept_agree, holds_kept, fields_kept}
 use Rattle.loading.proofs.Words.{run_ranged, grown_trans, grown_reserved, grown_refl, apart, under_grown}

@@ -1,15 +1,15 @@
 -- A datum without parts, and where there is none.
-use Rattle.std.proofs.Common.{◌≡◌, ℕ, ◌+◌, ◌-◌, ◌*◌, ◌<◌, ◌≤◌, List, [], ◌∷◌, ◌++◌, length, Some, None, Option, sym, refl, ap, ◌∙◌, arith}
+use Rattle.std.proofs.Common.{ℕ, ◌≤◌, List, length, Some, None, Option, sym, arith}
 use Rattle.query.specs.Data.{Data}
 use Rattle.query.specs.Query.{Ty, a_unit, a_num, a_truth, a_text, a_bag, a_rec, an_either}
-use Rattle.format.specs.Wire.{data_of, types, write_ty, FitsData}
+use Rattle.format.specs.Wire.{data_of, write_ty, FitsData}
 use Rattle.format.specs.Nodes.{Stands}
 use Rattle.values.specs.declared.value.Value.{Value}
 use Rattle.loading.specs.declared.loaded.Part.{Part}
 use Rattle.loading.specs.declared.loaded.Part.TheVariants as pt
 use Rattle.loading.specs.declared.loaded.Loaded.{Loaded}
 use Rattle.loading.specs.Fronts.{Tells}
-use Rattle.loading.specs.Loads.{Ready, Comes, Loads, LoadsPart}
+use Rattle.loading.specs.Loads.{Loads, LoadsPart}
 use Rattle.loading.proofs.Spots.{at_stands, at_long}
 use Rattle.loading.proofs.Words.{grown_refl}
 

@@ -1,26 +1,24 @@
 -- A record, loaded field by field: what holds on the way.
-use Rattle.std.proofs.Common.{◌≡◌, ℕ, zero, suc, ◌+◌, ◌-◌, ◌*◌, ◌<◌, ◌≤◌, true, List, length, Some, None, Option, sym, refl, ap, ◌∙◌, subst, arith}
-use Rattle.query.specs.Data.{Name, Data, rec, Fields, no_field, field}
-use Rattle.query.specs.Query.{Ty, a_rec, Tys, no_ty, ty}
+use Rattle.std.proofs.Common.{◌≡◌, ℕ, ◌+◌, ◌-◌, ◌*◌, ◌<◌, ◌≤◌, true, List, length, Some, None, Option, sym, refl, ap, ◌∙◌, subst, arith}
+use Rattle.query.specs.Data.{rec, Fields, no_field, field}
+use Rattle.query.specs.Query.{a_rec, Tys, no_ty, ty}
 use Rattle.query.specs.Types.{is_of, fields_are}
 use Rattle.query.specs.Size.{size_d, size_fs}
 use Rattle.query.proofs.OfType.{field_out, no_field_out}
 use Rattle.format.specs.Coding.{name, writes, AllFit}
-use Rattle.format.specs.Wire.{names_ty, write_names, write_data, write_values, write_ty, write_tys, FitsTy, FitsTys, FitsData, FitsValues, data_of, types}
+use Rattle.format.specs.Wire.{names_ty, write_data, write_values, write_ty, write_tys, FitsTy, FitsTys, FitsData, FitsValues, data_of, types}
 use Rattle.format.specs.Nodes.{Stands}
-use Rattle.values.specs.Memory.{Kept, StoredField, Used, Under, Grown, Run, Spelled, Holds, HoldsFields}
+use Rattle.values.specs.Memory.{Kept, StoredField, Spelled, Holds, HoldsFields}
 use Rattle.values.specs.Height.{height_tys}
-use Rattle.values.specs.declared.value.Value.{Value}
 use Rattle.values.specs.declared.value.Value.TheVariants.{Record}
-use Rattle.values.specs.declared.value.Field.{Field}
 use Rattle.values.proofs.Frame.{kept_refl, kept_trans}
 use Rattle.loading.specs.declared.loaded.Loaded.{Loaded}
 use Rattle.loading.specs.declared.loaded.Names.{Names}
 use Rattle.loading.specs.declared.loaded.Part.TheVariants as pt
-use Rattle.loading.specs.Fronts.{Tells, TellsNames, Named, TellsName}
-use Rattle.loading.specs.Loads.{Ready, LoadedAs, Comes, Loads, LoadsPart, LiesInside}
-use Rattle.loading.proofs.Spots.{At, at_stands, stands_at, at_same, at_long, at_spelled}
-use Rattle.loading.proofs.Fields.{joined, joined_none, joined_one, Filling, Filled, fill_none, fill_under, fill_all, fill_more}
+use Rattle.loading.specs.Fronts.{Tells, TellsNames, TellsName}
+use Rattle.loading.specs.Loads.{Ready, Comes, Loads, LoadsPart, LiesInside}
+use Rattle.loading.proofs.Spots.{At, at_stands, stands_at, at_same, at_spelled}
+use Rattle.loading.proofs.Fields.{joined, joined_none, joined_one, Filling, fill_none, fill_under, fill_all, fill_more}
 use Rattle.loading.proofs.Typed.{RecordOf, record_of, FirstField, first_field, no_fields}
 
 -- each field counts

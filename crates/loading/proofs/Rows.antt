@@ -1,5 +1,5 @@
 -- Slots that were reserved in a row, and are filled one by one.
-use Rattle.std.proofs.Common.{◌≡◌, ℕ, zero, suc, ◌+◌, ◌-◌, ◌*◌, ◌<◌, ◌≤◌, T, ◌⊎◌, List, [], ◌∷◌, length, get_or, sym, refl, ap, ◌∙◌, subst, inl, inr, arith}
+use Rattle.std.proofs.Common.{◌≡◌, ℕ, suc, ◌+◌, ◌*◌, ◌<◌, ◌≤◌, ◌⊎◌, List, get_or, sym, refl, ap, subst, inl, inr, arith}
 use Rattle.query.specs.Data.{Data, Datas, none, more, join, how_many}
 use Rattle.query.specs.Size.{size_d, size_ds}
 use Rattle.values.specs.Memory.{Kept, Stored, Used, Under, Grown, Run, Holds, HoldsAll, Agree, loaded}

@@ -1,23 +1,22 @@
 -- The sides of an either: the datum is loaded, and put into a slot above it.
-use Rattle.std.proofs.Common.{◌≡◌, ℕ, suc, ◌+◌, ◌-◌, ◌*◌, ◌<◌, ◌≤◌, true, List, length, Some, None, Option, sym, refl, ap, ◌∙◌, subst, arith}
-use Rattle.query.specs.Data.{Data, left, right}
+use Rattle.std.proofs.Common.{◌≡◌, ℕ, ◌+◌, ◌-◌, ◌<◌, ◌≤◌, true, List, length, Some, None, sym, refl, ap, subst, arith}
+use Rattle.query.specs.Data.{Data}
 use Rattle.query.specs.Query.{Ty}
 use Rattle.query.specs.Types.{is_of}
 use Rattle.query.specs.Size.{size_d}
 use Rattle.format.specs.Wire.{write_data, write_ty, FitsTy, FitsData, data_of, types}
 use Rattle.format.specs.Nodes.{Stands}
-use Rattle.values.specs.Memory.{Kept, Used, Under, Grown, Run, Holds, Agree, loaded}
-use Rattle.values.specs.declared.value.Value.{Value}
+use Rattle.values.specs.Memory.{Kept, Used, Under, Grown, Run, Holds, loaded}
 use Rattle.values.specs.declared.value.Value.TheVariants.{Left, Right}
 use Rattle.values.proofs.Frame.{kept_agree, holds_kept, stored_kept}
 use Rattle.loading.specs.declared.loaded.Loaded.{Loaded}
 use Rattle.loading.specs.declared.loaded.Part.TheVariants as pt
 use Rattle.loading.specs.Fronts.{Tells}
-use Rattle.loading.specs.Loads.{Ready, LoadedAs, Comes, Loads, LoadsPart, LiesInside, KeptIn}
+use Rattle.loading.specs.Loads.{Ready, LoadedAs, Comes, Loads, LoadsPart, KeptIn}
 use Rattle.loading.proofs.Spots.{At, at_stands, stands_at, at_same}
 use Rattle.loading.proofs.Words.{run_ranged, grown_above, under_grown}
 use Rattle.values.proofs.Ranged.{ranged, ranged_old}
-use Rattle.loading.proofs.Typed.{SideOf, LeftOf, left_of, RightOf, right_of}
+use Rattle.loading.proofs.Typed.{LeftOf, left_of, RightOf, right_of}
 
 -- what a type's length is told to be
 abbrev LongType : List ℕ → ℕ → ℕ → Type 0

@@ -1,5 +1,5 @@
 -- Bytes that stand at a place, and what stands after them.
-use Rattle.std.proofs.Common.{◌≡◌, ℕ, ◌+◌, ◌-◌, ◌<◌, ◌≤◌, List, [], ◌∷◌, ◌++◌, length, get_or, take, drop, sym, refl, ap, ◌∙◌, subst, arith, length-append, length-drop, get_or-drop, drop-drop, take_at, drop_at}
+use Rattle.std.proofs.Common.{◌≡◌, ℕ, ◌+◌, ◌≤◌, List, [], ◌∷◌, ◌++◌, length, get_or, take, drop, sym, refl, ap, ◌∙◌, subst, arith, length-append, length-drop, get_or-drop, drop-drop, take_at, drop_at}
 use Rattle.std.proofs.lemmas.List.{append_assoc}
 use Rattle.format.specs.Coding.{Coding}
 use Rattle.format.specs.Nodes.{Stands}

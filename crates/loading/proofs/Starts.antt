@@ -1,16 +1,16 @@
 -- What stands in front of data, types and names, from what was read of it.
-use Rattle.std.proofs.Common.{◌≡◌, ℕ, zero, suc, ◌+◌, ◌-◌, ◌<◌, ◌≤◌, Bool, true, false, ◌&&◌, ltb, List, [], ◌∷◌, ◌++◌, length, get_or, take, drop, Some, None, sym, refl, ap, ◌∙◌, subst, arith, length-append, length-drop}
+use Rattle.std.proofs.Common.{◌≡◌, ℕ, suc, ◌+◌, ◌-◌, ◌≤◌, Bool, true, false, ltb, List, [], ◌∷◌, ◌++◌, length, get_or, drop, Some, sym, refl, ap, ◌∙◌, subst, arith, length-append, length-drop}
 use Rattle.std.proofs.lemmas.List.{append_assoc}
-use Rattle.query.specs.Data.{Name, Data, unit, num, truth, text, bag, rec, left, right, Datas, Fields, how_many}
-use Rattle.query.specs.Query.{Ty, a_unit, a_num, a_truth, a_text, a_bag, a_rec, an_either, Tys, word}
+use Rattle.query.specs.Data.{Name, Data, unit, num, truth, text, bag, rec, left, right, Fields, how_many}
+use Rattle.query.specs.Query.{Ty, a_unit, a_truth, a_text, a_rec, Tys, word}
 use Rattle.query.specs.Types.{is_of, same_ty, as_num, bytes}
 use Rattle.query.specs.Size.{size_d}
 use Rattle.query.proofs.Tests.{and_l}
 use Rattle.query.proofs.TypeParts.{same_ty_out, num_out}
-use Rattle.format.specs.Coding.{Coding, le, name, many, counted, writes}
+use Rattle.format.specs.Coding.{le, name, many, writes}
 use Rattle.format.specs.Wire.{names, names_ty, write_names, truth_tag, write_data, write_datas, write_values, FitsData, write_ty, write_tys, FitsTy, data_of, types}
-use Rattle.format.specs.Heads.{DataHead, unit_h, num_h, truth_h, text_h, bag_h, rec_h, left_h, right_h, write_data_head, FitsDataHead, data_heads, data_arity, TyHead, unit_t, num_t, truth_t, text_t, bag_t, rec_t, either_t, write_ty_head, FitsTyHead, ty_heads, ty_arity}
-use Rattle.format.specs.Reading.{Begins, Read, ReadAs, Stuck}
+use Rattle.format.specs.Heads.{DataHead, unit_h, num_h, truth_h, text_h, bag_h, rec_h, left_h, right_h, write_data_head, FitsDataHead, data_heads, data_arity, rec_t, write_ty_head, FitsTyHead, ty_heads, ty_arity}
+use Rattle.format.specs.Reading.{Read, ReadAs, Stuck}
 use Rattle.format.specs.Nodes.{NodeRead, TellsData, TellsType, Stands}
 use Rattle.format.specs.declared.node.DataNode.{DataNode}
 use Rattle.format.specs.declared.node.DataNode.TheVariants as dn
@@ -24,14 +24,12 @@ use Rattle.format.specs.Trees.{tree_way}
 use Rattle.format.proofs.Spans.{one_read, one_stuck}
 use Rattle.format.specs.DataLaws.{data_laws}
 use Rattle.format.specs.TypeLaws.{ty_laws}
-use Rattle.values.specs.Memory.{Used, Holds, Spelled}
-use Rattle.values.specs.declared.value.Value.{Value}
+use Rattle.values.specs.Memory.{Holds}
 use Rattle.values.specs.declared.value.Value.TheVariants as vs
-use Rattle.loading.specs.Fronts.{PlainDatum, PartInside, Tells, NamesInside, TellsNames, Named}
+use Rattle.loading.specs.Fronts.{PlainDatum, PartInside, Tells, NamesInside, TellsNames}
 use Rattle.loading.specs.declared.loaded.Part.{Part}
 use Rattle.loading.specs.declared.loaded.Part.TheVariants as pt
-use Rattle.loading.specs.declared.loaded.Names.{Names}
-use Rattle.loading.proofs.Spots.{At, at_stands, at_second, at_tail, at_byte, at_spelled, at_same}
+use Rattle.loading.proofs.Spots.{At, at_stands, at_second, at_byte, at_spelled, at_same}
 
 -- the head of a datum, and what follows it
 unfoldable head_of : Data → DataHead

@@ -1,22 +1,21 @@
 -- Tables, loaded one by one: what holds on the way.
-use Rattle.std.proofs.Common.{◌≡◌, ℕ, zero, suc, ◌+◌, ◌-◌, ◌*◌, ◌<◌, ◌≤◌, max, true, false, List, [], ◌∷◌, ◌++◌, length, Some, None, Option, sym, refl, ap, ◌∙◌, subst, arith, length-append}
+use Rattle.std.proofs.Common.{◌≡◌, ℕ, suc, ◌+◌, ◌*◌, ◌<◌, ◌≤◌, true, List, [], ◌∷◌, length, Some, None, sym, refl, ap, ◌∙◌, subst, arith, length-append}
 use Rattle.query.specs.Data.{Data, Datas, none, more, join}
 use Rattle.query.specs.Query.{Ty, a_unit, a_num, a_truth, a_text, a_bag, a_rec, an_either, Tys, no_ty, ty, Tables}
 use Rattle.query.specs.Types.{is_of, Schema, tables_are}
 use Rattle.query.specs.Size.{size_d, size_tables}
 use Rattle.query.proofs.Tests.{and_l, and_r}
-use Rattle.format.specs.Coding.{le, name, writes, AllFit, many}
+use Rattle.format.specs.Coding.{le, name, writes, AllFit}
 use Rattle.format.specs.Wire.{names_ty, write_names, write_data, write_ty, write_tys, FitsTy, FitsData, data_of, types}
 use Rattle.format.specs.Heads.{as_datas}
 use Rattle.format.specs.Bytes.{length_le}
-use Rattle.values.specs.Memory.{Kept, Stored, Used, Holds, HoldsAll}
+use Rattle.values.specs.Memory.{Kept, Stored, HoldsAll}
 use Rattle.values.specs.Height.{height_ty, height_tys}
-use Rattle.values.specs.declared.value.Value.{Value}
 use Rattle.values.proofs.Frame.{kept_refl, kept_trans, stored_kept}
 use Rattle.loading.specs.declared.loaded.Loaded.{Loaded}
-use Rattle.loading.specs.Loads.{Ready, LoadedAs, Comes, Loads, LiesInside, TablesReady, TablesLoaded, TablesCome, LoadsTables}
+use Rattle.loading.specs.Loads.{Ready, Loads, LiesInside, TablesReady, LoadsTables}
 use Rattle.loading.proofs.Spots.{At, at_stands, stands_at, at_same, at_first, at_second, at_long}
-use Rattle.loading.proofs.Rows.{join_none, join_one, some_size, Filling, Filled, fill_none, fill_under, fill_all, fill_more}
+use Rattle.loading.proofs.Rows.{join_none, join_one, Filling, fill_none, fill_under, fill_all, fill_more}
 
 names_long : (ts : Tys) → 1 ≤ length (write_names (names_ty ts))
 names_long ts = omega (arith, length-append (le 4 (length (names_ty ts))) (writes name (names_ty ts)), length_le 4 (length (names_ty ts)))

@@ -1,15 +1,15 @@
 -- Data by their types: what the parts of a datum are of, and where the types of the parts stand.
-use Rattle.std.proofs.Common.{◌≡◌, ℕ, zero, suc, ◌+◌, ◌-◌, ◌<◌, ◌≤◌, max, true, false, List, [], ◌∷◌, ◌++◌, length, sym, refl, ap, ◌∙◌, subst, arith, length-append}
+use Rattle.std.proofs.Common.{◌≡◌, ℕ, suc, ◌+◌, ◌-◌, ◌<◌, ◌≤◌, true, false, List, ◌∷◌, ◌++◌, length, sym, refl, ap, ◌∙◌, subst, arith, length-append}
 use Rattle.query.specs.Data.{Name, Data, bag, rec, left, right, Datas, none, more, Fields, no_field, field, how_many}
 use Rattle.query.specs.Query.{Ty, a_unit, a_num, a_truth, a_text, a_bag, a_rec, an_either, Tys, no_ty, ty}
 use Rattle.query.specs.Types.{is_of, all_of, fields_are, on_one, elem, fields_of, sides_of}
 use Rattle.query.specs.Size.{size_d, size_ds, size_fs}
 use Rattle.query.proofs.OfType.{first_of, rest_of, field_out, no_field_out, no_ty_out}
-use Rattle.format.specs.Coding.{Coding, le, name, writes, AllFit}
+use Rattle.format.specs.Coding.{le, name, writes, AllFit}
 use Rattle.format.specs.Wire.{names, names_ty, write_names, write_data, write_datas, write_values, FitsData, FitsDatas, FitsValues, write_ty, write_tys, FitsTy, FitsTys}
 use Rattle.format.specs.Bytes.{length_le}
 use Rattle.values.specs.Height.{height_ty, height_tys}
-use Rattle.loading.proofs.Spots.{At, at_long, at_first, at_second, at_tail, at_same}
+use Rattle.loading.proofs.Spots.{At, at_first, at_second, at_tail, at_same}
 
 no_truth : {A : Type 0} → false ≡ true → A
 no_truth e = absurd (let z : ◌≡◌ {A = ℕ} 0 1 = cc in omega arith)

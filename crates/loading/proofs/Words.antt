@@ -1,5 +1,5 @@
 -- Which words are in use, as more are taken.
-use Rattle.std.proofs.Common.{◌≡◌, ℕ, ◌+◌, ◌*◌, ◌<◌, ◌≤◌, T, ◌⊎◌, refl, inl, inr, arith}
+use Rattle.std.proofs.Common.{ℕ, ◌+◌, ◌<◌, ◌≤◌, T, ◌⊎◌, inl, inr, arith}
 use Rattle.values.specs.Memory.{Used, Under, Grown, Run}
 use Rattle.values.proofs.Ranged.{ranged, ranged_old, ranged_new, ranged_split}
 

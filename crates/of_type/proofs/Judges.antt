@@ -4,7 +4,6 @@ use Rattle.query.specs.Data.{Data, bag, rec, left, right, Datas, Fields}
 use Rattle.query.specs.Query.{Ty, a_unit, a_num, a_truth, a_text, a_bag, a_rec, an_either, Tys}
 use Rattle.query.specs.Types.{elem, sides_of, on_one, is_of, all_of, tables_are}
 use Rattle.query.specs.Size.{size_t, size_s}
-use Rattle.format.specs.Coding.{many}
 use Rattle.format.specs.Wire.{write_ty, FitsTy, write_data, FitsData, FitsDatas, FitsValues, FitsTys}
 use Rattle.format.specs.declared.node.DataNode.{DataNode}
 use Rattle.format.specs.declared.node.DataNode.TheVariants as dn

@@ -1,4 +1,6 @@
 // Whether data are of their types, told from the bytes of both.
+#![tactic(auto)]
+
 ghost use Rattle.std.specs.Prelude.{◌≡◌, ◌≤◌, length, Decides};
 ghost use Rattle.of_type.specs.Told.{IsOfTold, TablesTold};
 ghost use Rattle.of_type.specs.Places.{DatumIs, BagIs, ValuesAre, TypePast, HeadsMet};

@@ -1,13 +1,12 @@
 -- Work that is due before a part is worked out and pays for what is made after it.
-use Rattle.std.proofs.Common.{◌≡◌, ℕ, ◌+◌, ◌-◌, ◌*◌, ◌<◌, ◌≤◌, List, [], ◌∷◌, length, Ok, Err, Result, sym, refl, ap, ◌∙◌, subst, arith}
+use Rattle.std.proofs.Common.{◌≡◌, ℕ, ◌+◌, List, length, Err, Result, sym, ap, ◌∙◌, subst, arith}
 use Rattle.query.specs.Data.{Data}
 use Rattle.query.specs.Query.{Got, adding, after}
 use Rattle.values.specs.Memory.{Used}
-use Rattle.operators.specs.Means.{CameTo, Comes, Stopped, Means}
+use Rattle.operators.specs.Means.{CameTo, Stopped, Means}
 use Rattle.operators.specs.declared.came.Came.{Came}
 use Rattle.operators.specs.declared.came.Stop.{Stop}
-use Rattle.operators.specs.declared.came.Stop.TheVariants.{Tired, NoRoom, Wrong}
-use Rattle.operators.proofs.Steps.{after_came, means_stop, means_past, means_paid, stopped_adding}
+use Rattle.operators.proofs.Steps.{after_came, means_stop, means_past, stopped_adding}
 
 pub adding_zero : (g : Got) → g ≡ adding 0 g
 adding_zero g = let f : ℕ → Got = λ n. record { work = n; is = g.is } in let e : g.work ≡ 0 + g.work = omega arith in ap f e

@@ -1,5 +1,5 @@
 -- Words in use: they stay, and more come above.
-use Rattle.std.proofs.Common.{◌≡◌, ℕ, ◌<◌, ◌≤◌, T, ◌⊎◌, refl, inl, inr, arith}
+use Rattle.std.proofs.Common.{ℕ, ◌<◌, ◌≤◌, T, ◌⊎◌, inl, inr, arith}
 use Rattle.values.specs.Memory.{Used, Under, Grown}
 
 pub grown_refl : (u : Used) (a : ℕ) → Grown u u a a

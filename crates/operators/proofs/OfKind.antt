@@ -1,11 +1,10 @@
 -- Values of a kind: what a value is tells what its datum is, and what can't be done comes to nothing.
-use Rattle.std.proofs.Common.{◌≡◌, ℕ, ◌*◌, Bool, List, [], ◌∷◌, Ok, Err, Result, sym, refl, ap, ◌∙◌, subst, arith}
+use Rattle.std.proofs.Common.{◌≡◌, ℕ, ◌*◌, Bool, List, [], Ok, Err, Result, sym, refl, ap, ◌∙◌, subst, arith}
 use Rattle.query.specs.Data.{Data, unit, num, truth, text, bag, rec, left, right, Datas, Fields}
-use Rattle.query.specs.Query.{Got, failed, on_num, on_truth, on_bag, on_rec}
+use Rattle.query.specs.Query.{Got, on_num, on_truth, on_bag, on_rec}
 use Rattle.values.specs.Memory.{Used, Run, Holds, HoldsAll, HoldsFields}
 use Rattle.values.specs.declared.value.Place.{Place}
 use Rattle.values.specs.declared.value.Value.{Value}
-use Rattle.values.specs.declared.value.Value.TheVariants.{Bag, Record}
 use Rattle.operators.specs.Kinds.{as_number, as_truth, as_bag, as_record}
 use Rattle.operators.specs.declared.came.Stop.{Stop}
 use Rattle.operators.specs.declared.came.Stop.TheVariants.{Wrong}

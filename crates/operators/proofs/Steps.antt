@@ -5,13 +5,13 @@ use Rattle.query.specs.Query.{Got, came, adding, after, on_list}
 use Rattle.values.specs.Memory.{Used, Grown, Holds}
 use Rattle.values.specs.declared.value.Value.{Value}
 use Rattle.values.specs.declared.value.Made.{Made}
-use Rattle.values.specs.Making.{Makes, MadeAs}
-use Rattle.operators.specs.Means.{CameTo, Comes, Short, Stopped, Means}
+use Rattle.values.specs.Making.{MadeAs}
+use Rattle.operators.specs.Means.{CameTo, Comes, Stopped, Means}
 use Rattle.operators.specs.declared.came.Came.{Came}
 use Rattle.operators.specs.declared.came.Stop.{Stop}
 use Rattle.operators.specs.declared.came.Stop.TheVariants.{Tired, NoRoom, Wrong}
 use Rattle.operators.proofs.Grows.{grown_refl, grown_trans}
-use Rattle.operators.proofs.Pays.{pay_both, pay_more, pay_none, pay_one}
+use Rattle.operators.proofs.Pays.{pay_both}
 
 module _ (bs : List ℕ) (p : ℕ) where
   pub stopped_adding : (n b : ℕ) (g : Got) (old end : ℕ) (s : Stop) → Stopped p g b old end s → Stopped p (adding n g) (n + b) old end s

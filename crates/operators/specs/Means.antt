@@ -1,5 +1,5 @@
 -- What an outcome says of what something comes to: the budget spent equals what was looked at, and memory is paid for by work.
-use Rattle.std.specs.Prelude.{◌≡◌, ℕ, ◌+◌, ◌*◌, ◌<◌, ◌≤◌, Bool, List, [], ◌∷◌, ◌++◌, length, Ok, Err, Result}
+use Rattle.std.specs.Prelude.{◌≡◌, ℕ, ◌+◌, ◌*◌, ◌<◌, ◌≤◌, List, [], ◌∷◌, length, Ok, Err, Result}
 use Rattle.query.specs.Data.{Data}
 use Rattle.query.specs.Query.{Got}
 use Rattle.values.specs.Memory.{Used, Grown, Holds}

@@ -1,5 +1,5 @@
 -- What an operator is given: values that stand for typed data, and where its query stands in the request's bytes.
-use Rattle.std.specs.Prelude.{◌≡◌, ℕ, ◌+◌, ◌*◌, ◌<◌, ◌≤◌, true, List, [], ◌∷◌, ◌++◌, length, drop, Result}
+use Rattle.std.specs.Prelude.{◌≡◌, ℕ, ◌+◌, ◌*◌, ◌≤◌, true, List, [], ◌∷◌, ◌++◌, length, drop, Result}
 use Rattle.query.specs.Data.{Name, Data}
 use Rattle.query.specs.Query.{Ty, Query, adding}
 use Rattle.query.specs.Types.{sound, is_of}

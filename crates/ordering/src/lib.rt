@@ -1,4 +1,6 @@
 // The order of data: which of two comes first. The definitions and the laws stand in specs/, and each function here promises one law.
+#![tactic(auto)]
+
 ghost use Rattle.ordering.specs.Order.{AlikeIsSame, AlikeTextIsSame, AlikeIffSame, WayFlips, WayTransits, WayTextIsLess};
 
 pub fn alike_is_same_holds() -> u8

@@ -1,4 +1,6 @@
 // What is printed: numbers, texts, data, and the lines that answers are.
+#![tactic(auto)]
+
 pub mod datum;
 pub mod line;
 pub mod number;

@@ -3,7 +3,7 @@ use mathlib.Core.Path.{◌≡◌, refl, ap}
 use mathlib.Core.List.{List, [], ◌∷◌}
 use Prim.Native.Nat.{ℕ, suc}
 use native.Mathlib.Omega.{arith}
-use Rattle.query.specs.Data.{Data, Datas, same, how_many, bag, none, more}
+use Rattle.query.specs.Data.{Data, Datas, how_many, bag, none, more}
 use Rattle.query.specs.Query.{Got, came, adding, on_list, after, on_bag, each_of, eval}
 use Rattle.query.specs.Laws.{AsMany}
 

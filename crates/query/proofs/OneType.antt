@@ -6,7 +6,7 @@ use Prim.Native.Nat.{ℕ, zero, suc, ◌≤◌}
 use native.Mathlib.Omega.{arith}
 use lib.ListN.{length}
 use Rattle.query.specs.Data.{pick, Name, same_text}
-use Rattle.query.specs.Query.{Op1, not_so, in_bag, flat, count, sum, distinct, dot, as_field, without, project, Op2, equal, and, or, plus, less, join_bags, join_recs, within, Ty, a_num, a_truth, a_bag, Tys, no_ty, ty, Query, table, it, env, just, two, one, each, keep, product, matched, default, as_left, as_right, either, then, with_env}
+use Rattle.query.specs.Query.{Op1, not_so, in_bag, flat, count, sum, distinct, dot, as_field, without, project, Op2, equal, and, or, plus, less, join_bags, join_recs, within, Ty, Tys, no_ty, ty, Query, table, it, env, just, two, one, each, keep, product, matched, default, as_left, as_right, either, then, with_env}
 use Rattle.query.specs.Types.{on_ty, if_so, get_ty, type1, type2, Schema, ty_at, type_of}
 use Rattle.query.specs.Size.{some_ty}
 use Rattle.query.specs.Laws.{OneTypeOnly}

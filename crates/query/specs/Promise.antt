@@ -1,8 +1,8 @@
 -- What the desk promises: requests and answers, the refusals in their order, and which answer is right.
-use Rattle.std.specs.Prelude.{◌≡◌, ◌⊎◌, ◌≢◌, Bool, true, false, not, ◌&&◌, ◌||◌, List, [], ◌∷◌, ◌++◌, ℕ, zero, suc, ◌+◌, ◌*◌, ◌-◌, ◌/◌, ◌%◌, ◌≤◌, ◌<◌, ltb, leb, eqb, length, get_or}
-use Rattle.query.specs.Data.{pick, Name, Data, unit, num, truth, text, bag, rec, left, right, Datas, none, more, Fields, no_field, field, same, same_text, join, how_many, is_in, once, get, both, in_order}
-use Rattle.query.specs.Query.{Op2, equal, and, or, plus, less, join_bags, join_recs, within, Op1, not_so, in_bag, flat, count, sum, distinct, dot, as_field, without, project, Ty, a_unit, a_num, a_truth, a_text, a_bag, a_rec, an_either, Tys, no_ty, ty, Query, table, it, env, just, two, one, each, keep, product, matched, default, as_left, as_right, either, then, with_env, Tables, Got, came, eval, asked, on_bag, all_pairs, matched_pairs, keep_of}
-use Rattle.query.specs.Types.{code, sound, is_of, get_ty, fields_in, type_of, type_asked, Schema, tables_are, fields_are}
+use Rattle.std.specs.Prelude.{◌≡◌, Bool, true, false, not, ◌&&◌, List, [], ◌∷◌, ℕ, suc, ◌+◌, ◌*◌, ◌≤◌, ◌<◌, leb, eqb}
+use Rattle.query.specs.Data.{pick, Name, Data}
+use Rattle.query.specs.Query.{equal, dot, Ty, Tys, Query, it, two, one, keep, product, matched, Tables, asked}
+use Rattle.query.specs.Types.{get_ty, fields_in, type_asked, Schema, tables_are}
 use Rattle.query.specs.Size.{size_d, size_t, size_q, size_s, all_sound, some_ty, size_tables}
 
 -- a plan is a question. What is asked: to plan one; to ask one of tables, with so much work at most; the last number says how many numbers of eight bytes are lent

@@ -1,6 +1,6 @@
 -- Questions, what they come to, and how much is looked at. Assumes nothing: these are definitions.
-use Rattle.std.specs.Prelude.{◌≡◌, ◌⊎◌, ◌≢◌, Bool, true, false, not, ◌&&◌, ◌||◌, List, [], ◌∷◌, ◌++◌, ℕ, zero, suc, ◌+◌, ◌*◌, ◌-◌, ◌/◌, ◌%◌, ◌≤◌, ◌<◌, ltb, leb, eqb, length, get_or}
-use Rattle.query.specs.Data.{pick, Name, Data, unit, num, truth, text, bag, rec, left, right, Datas, none, more, Fields, no_field, field, same, same_text, less_text, join, how_many, is_in, once, get, put, left_out, both, one_of, only}
+use Rattle.std.specs.Prelude.{Bool, true, false, not, ◌&&◌, ◌||◌, List, [], ◌∷◌, ℕ, zero, suc, ◌+◌, ◌*◌, ◌%◌, ltb}
+use Rattle.query.specs.Data.{pick, Name, Data, unit, num, truth, text, bag, rec, left, right, Datas, none, more, Fields, no_field, field, same, join, how_many, is_in, once, get, left_out, both, only}
 
 pub data Op2 : Type 0 where
   equal : Op2

@@ -1,8 +1,8 @@
 -- How large things are: parts of data, types, queries, schemas and tables. Names and texts count their bytes.
-use Rattle.std.specs.Prelude.{◌≡◌, ◌⊎◌, ◌≢◌, Bool, true, false, not, ◌&&◌, ◌||◌, List, [], ◌∷◌, ◌++◌, ℕ, zero, suc, ◌+◌, ◌*◌, ◌-◌, ◌/◌, ◌%◌, ◌≤◌, ◌<◌, ltb, leb, eqb, length, get_or}
-use Rattle.query.specs.Data.{pick, Name, Data, unit, num, truth, text, bag, rec, left, right, Datas, none, more, Fields, no_field, field, same, same_text, join, how_many, is_in, once, get, both, in_order}
-use Rattle.query.specs.Query.{Op2, equal, and, or, plus, less, join_bags, join_recs, within, Op1, not_so, in_bag, flat, count, sum, distinct, dot, as_field, without, project, Ty, a_unit, a_num, a_truth, a_text, a_bag, a_rec, an_either, Tys, no_ty, ty, Query, table, it, env, just, two, one, each, keep, product, matched, default, as_left, as_right, either, then, with_env, Tables, Got, came, eval, asked, on_bag, all_pairs, matched_pairs, keep_of}
-use Rattle.query.specs.Types.{code, sound, is_of, get_ty, fields_in, type_of, type_asked, Schema, tables_are, fields_are}
+use Rattle.std.specs.Prelude.{Bool, true, false, ◌&&◌, List, [], ◌∷◌, ℕ, suc, ◌+◌, length}
+use Rattle.query.specs.Data.{Name, Data, unit, num, truth, text, bag, rec, left, right, Datas, none, more, Fields, no_field, field}
+use Rattle.query.specs.Query.{Op1, not_so, in_bag, flat, count, sum, distinct, dot, as_field, without, project, Ty, a_unit, a_num, a_truth, a_text, a_bag, a_rec, an_either, Tys, no_ty, ty, Query, table, it, env, just, two, one, each, keep, product, matched, default, as_left, as_right, either, then, with_env, Tables}
+use Rattle.query.specs.Types.{sound, Schema}
 
 -- how large a question is, what is written out in it too
 unfoldable mutual

@@ -1,4 +1,6 @@
 // Definitions: data, queries, types, sizes and what the desk promises (specs/). Each function's contract is a law of them, proved; the functions have nothing else to do.
+#![tactic(auto)]
+
 ghost use Rattle.query.specs.Laws.{SameIsSame, StaysInOrder, EachOnce, AsMany, NotLookedAt, NotLookedAtIt, CodeTells, OneTypeOnly, TypesAreSound, ComesToItsType, MatchedIsKept};
 
 // What is told to be the same is the same, and nothing differs from itself.

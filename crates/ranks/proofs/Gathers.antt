@@ -1,10 +1,10 @@
 -- Names put among the others, one after the other.
-use Rattle.std.proofs.Common.{◌≡◌, ℕ, zero, suc, ◌+◌, ◌-◌, ◌^◌, ◌<◌, ◌≤◌, List, [], ◌∷◌, ◌++◌, length, get_or, take, drop, sym, refl, ap, ◌∙◌, subst, ap₂, arith, length-append, length-drop}
-use Rattle.std.proofs.lemmas.List.{append_assoc, append-nil}
+use Rattle.std.proofs.Common.{◌≡◌, ℕ, ◌+◌, ◌<◌, ◌≤◌, List, [], ◌∷◌, ◌++◌, length, take, drop, sym, ap, ◌∙◌, subst, arith}
+use Rattle.std.proofs.lemmas.List.{append_assoc}
 use Rattle.query.specs.Data.{Name}
-use Rattle.format.specs.Coding.{Coding, le, name, writes, AllFit}
-use Rattle.format.specs.Reading.{Begins, ReadAs, Stuck, OneWay}
-use Rattle.format.specs.Lists.{from, from_drop}
+use Rattle.format.specs.Coding.{name, writes, AllFit}
+use Rattle.format.specs.Reading.{ReadAs, Stuck}
+use Rattle.format.specs.Lists.{from}
 use Rattle.format.specs.Codings.{name_way}
 use Rattle.ranks.specs.Ranks.{In, Among, names_of, Listed, Put}
 use Rattle.ranks.specs.Known.{AllIn, Kept, Took, NamesTaken}

@@ -1,11 +1,10 @@
 -- Names by their places: looking one up, and putting one in.
-use Rattle.std.proofs.Common.{◌≡◌, ℕ, zero, suc, ◌+◌, ◌-◌, ◌<◌, ◌≤◌, Bool, true, false, eqb, ltb, ◌⊎◌, List, [], ◌∷◌, ◌++◌, length, get_or, take, drop, vec_items, vec_len, vec_capacity, sym, refl, ap, ◌∙◌, subst, ap₂, inl, inr, true≢false, arith}
-use mathlib.Core.Bool.{false≢true}
-use Rattle.query.specs.Data.{Name, same_text, less_text}
-use Rattle.query.proofs.Texts.{same_text_self, same_text_true, less_self, less_trans, less_differs}
+use Rattle.std.proofs.Common.{◌≡◌, ℕ, zero, suc, ◌+◌, ◌-◌, ◌<◌, ◌≤◌, true, ◌⊎◌, List, [], ◌∷◌, length, get_or, take, drop, vec_items, vec_capacity, sym, refl, ap, ◌∙◌, subst, ap₂, inl, inr, true≢false, arith}
+use Rattle.query.specs.Data.{Name, less_text}
+use Rattle.query.proofs.Texts.{less_self, less_trans}
 use Rattle.std.specs.List.{insert}
 use Rattle.std.proofs.lemmas.List.Edits.{length-insert, get_or-insert_below, get_or-insert_at, get_or-insert_above}
-use Rattle.ranks.specs.Ranks.{name_at, names_at, nowhere, Ordered, In, Among, names_of, Listed, PutAt, Put, RankOf}
+use Rattle.ranks.specs.Ranks.{name_at, names_at, nowhere, Ordered, In, names_of, Listed, PutAt, Put}
 use Rattle.ranks.specs.declared.names.Place.{Place}
 use Rattle.ranks.specs.declared.names.Names.{Names}
 

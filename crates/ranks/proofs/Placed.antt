@@ -1,8 +1,8 @@
 -- What was read at a place is what stands there, and the next comes after it.
-use Rattle.std.proofs.Common.{◌≡◌, ℕ, zero, suc, ◌+◌, ◌-◌, ◌^◌, ◌<◌, ◌≤◌, List, [], ◌∷◌, ◌++◌, length, get_or, take, drop, sym, refl, ap, ◌∙◌, subst, ap₂, arith, length-append, length-drop, drop-drop}
-use Rattle.std.proofs.lemmas.List.{append_assoc, append-nil}
+use Rattle.std.proofs.Common.{◌≡◌, ℕ, ◌+◌, ◌≤◌, List, ◌++◌, length, take, drop, sym, ap, ◌∙◌, subst, arith, length-append, length-drop, drop-drop}
+use Rattle.std.proofs.lemmas.List.{append_assoc}
 use Rattle.query.specs.Data.{Name}
-use Rattle.format.specs.Coding.{Coding, le, name, writes, AllFit}
+use Rattle.format.specs.Coding.{Coding, le, name}
 use Rattle.format.specs.Reading.{Begins, Stuck, OneWay}
 use Rattle.format.specs.Lists.{split_at, after_of, front_of, from, from_drop}
 use Rattle.format.specs.Bytes.{length_le}

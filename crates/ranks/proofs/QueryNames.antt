@@ -1,19 +1,19 @@
 -- The names of queries, gathered head by head.
-use Rattle.std.proofs.Common.{◌≡◌, ℕ, zero, suc, ◌+◌, ◌-◌, ◌*◌, ◌^◌, ◌<◌, ◌≤◌, List, [], ◌∷◌, ◌++◌, length, get_or, take, drop, sym, refl, ap, ◌∙◌, subst, ap₂, arith, length-append, length-drop}
+use Rattle.std.proofs.Common.{◌≡◌, ℕ, suc, ◌+◌, ◌-◌, ◌*◌, ◌^◌, ◌<◌, ◌≤◌, List, [], ◌∷◌, ◌++◌, length, take, drop, sym, refl, ap, ◌∙◌, subst, ap₂, arith, length-append}
 use Rattle.std.proofs.lemmas.List.{append_assoc, append-nil}
 use Rattle.query.specs.Data.{Name, Data}
 use Rattle.query.specs.Query.{a_unit, a_num, a_truth, a_text, a_bag, a_rec, an_either, Tys, no_ty, ty, Op1, not_so, in_bag, flat, count, sum, distinct, dot, as_field, without, project, Ty, Query, table, it, env, just, two, one, each, keep, product, matched, default, as_left, as_right, either, then, with_env}
-use Rattle.format.specs.Coding.{Coding, le, name, writes, AllFit}
+use Rattle.format.specs.Coding.{le, name, writes, AllFit}
 use Rattle.format.specs.Wire.{write_ty, write_data, types, write_1, Fits1, write_query, FitsQuery, queries}
 use Rattle.format.specs.Heads.{QueryHead, table_q, it_q, env_q, just_q, two_q, one_q, each_q, keep_q, product_q, matched_q, default_q, left_q, right_q, either_q, then_q, with_env_q, write_query_head, FitsQueryHead, query_heads, query_arity}
-use Rattle.format.specs.Reading.{Begins, ReadAs, Stuck}
-use Rattle.format.specs.Nodes.{NodeRead, TellsQuery, IsOp1, op_2}
+use Rattle.format.specs.Reading.{Stuck}
+use Rattle.format.specs.Nodes.{NodeRead, TellsQuery, IsOp1}
 use Rattle.format.specs.declared.node.QueryNode.{QueryNode}
 use Rattle.format.specs.declared.node.QueryNode.TheVariants as qn
 use Rattle.format.specs.declared.node.Binary.{Binary}
 use Rattle.format.specs.declared.node.Unary.{Unary}
 use Rattle.format.specs.declared.node.Unary.TheVariants as uo
-use Rattle.format.specs.Lists.{from, from_drop}
+use Rattle.format.specs.Lists.{from}
 use Rattle.format.specs.Bytes.{length_le}
 use Rattle.format.specs.Trees.{fits_append, node_opened, writes_append}
 use Rattle.format.specs.QueryLaws.{query_laws}

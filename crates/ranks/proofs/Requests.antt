@@ -1,11 +1,7 @@
 -- All names of a request.
-use Rattle.std.proofs.Common.{◌≡◌, ℕ, zero, suc, ◌+◌, ◌-◌, ◌<◌, ◌≤◌, List, [], ◌∷◌, ◌++◌, length, get_or, take, drop, vec_items, vec_len, vec_capacity, sym, refl, ap, ◌∙◌, subst, ap₂, arith}
-use Rattle.query.specs.Data.{Name}
-use Rattle.query.specs.Query.{Ty, Query}
-use Rattle.format.specs.Coding.{writes, AllFit}
-use Rattle.format.specs.Wire.{types, write_query, FitsQuery}
-use Rattle.ranks.specs.Ranks.{In, Among, nowhere, names_at, names_of, Listed}
-use Rattle.ranks.specs.Known.{KnowsAll, Knows, names_all, names_q, Kept, Took, TypesTaken, QueryTaken, Gathered}
+use Rattle.std.proofs.Common.{◌≡◌, ℕ, ◌+◌, ◌<◌, ◌≤◌, List, [], ◌∷◌, length, get_or, vec_items, vec_capacity, sym, ap, ◌∙◌, subst, arith}
+use Rattle.ranks.specs.Ranks.{In, nowhere, names_at, names_of, Listed}
+use Rattle.ranks.specs.Known.{Kept, TypesTaken, QueryTaken, Gathered}
 use Rattle.ranks.specs.declared.names.Place.{Place}
 use Rattle.ranks.specs.declared.names.Names.{Names}
 use Rattle.ranks.proofs.Listings.{names_length}

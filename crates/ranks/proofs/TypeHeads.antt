@@ -1,13 +1,12 @@
 -- Types as a head and the types that follow it.
-use Rattle.std.proofs.Common.{◌≡◌, ℕ, zero, suc, ◌+◌, ◌-◌, ◌^◌, ◌<◌, ◌≤◌, List, [], ◌∷◌, ◌++◌, length, get_or, take, drop, sym, refl, ap, ◌∙◌, subst, ap₂, arith, length-append}
+use Rattle.std.proofs.Common.{◌≡◌, ℕ, suc, ◌+◌, List, [], ◌∷◌, ◌++◌, length, sym, refl, ap, ◌∙◌, arith}
 use Rattle.std.proofs.lemmas.List.{append_assoc, append-nil}
 use Rattle.query.specs.Data.{Name}
 use Rattle.query.specs.Query.{Ty, a_unit, a_num, a_truth, a_text, a_bag, a_rec, an_either, Tys, no_ty, ty}
-use Rattle.format.specs.Coding.{Coding, le, name, writes, AllFit}
+use Rattle.format.specs.Coding.{writes, AllFit}
 use Rattle.format.specs.Wire.{names_ty, write_names, write_ty, write_tys, FitsTy, FitsTys, types}
-use Rattle.format.specs.Heads.{TyHead, unit_t, num_t, truth_t, text_t, bag_t, rec_t, either_t, write_ty_head, FitsTyHead, ty_heads, ty_arity}
+use Rattle.format.specs.Heads.{TyHead, unit_t, num_t, truth_t, text_t, bag_t, rec_t, either_t, write_ty_head, FitsTyHead, ty_arity}
 use Rattle.format.specs.Trees.{writes_append}
-use Rattle.ranks.specs.Ranks.{In, Among}
 use Rattle.ranks.specs.Known.{AllIn, KnowsTy, KnowsTys, KnowsAll, names_t, names_ts, names_all, head_names}
 
 abbrev pub head_ty : Ty → TyHead

@@ -1,20 +1,20 @@
 -- The names of types, gathered head by head.
-use Rattle.std.proofs.Common.{◌≡◌, ℕ, zero, suc, ◌+◌, ◌-◌, ◌*◌, ◌^◌, ◌<◌, ◌≤◌, List, [], ◌∷◌, ◌++◌, length, get_or, take, drop, sym, refl, ap, ◌∙◌, subst, ap₂, arith, length-append, length-drop}
-use Rattle.std.proofs.lemmas.List.{append_assoc, append-nil}
+use Rattle.std.proofs.Common.{◌≡◌, ℕ, suc, ◌+◌, ◌-◌, ◌*◌, ◌^◌, ◌<◌, ◌≤◌, List, [], ◌∷◌, ◌++◌, length, drop, sym, refl, ap, ◌∙◌, subst, arith, length-append}
+use Rattle.std.proofs.lemmas.List.{append_assoc}
 use Rattle.query.specs.Data.{Name}
 use Rattle.query.specs.Query.{Ty}
-use Rattle.format.specs.Coding.{Coding, le, name, writes, AllFit}
-use Rattle.format.specs.Wire.{write_ty, types}
+use Rattle.format.specs.Coding.{le, name, writes, AllFit}
+use Rattle.format.specs.Wire.{types}
 use Rattle.format.specs.Heads.{TyHead, unit_t, num_t, truth_t, text_t, bag_t, rec_t, either_t, write_ty_head, FitsTyHead, ty_heads, ty_arity}
-use Rattle.format.specs.Reading.{Begins, ReadAs, Stuck}
+use Rattle.format.specs.Reading.{Stuck}
 use Rattle.format.specs.Nodes.{NodeRead, TellsType}
 use Rattle.format.specs.declared.node.TypeNode.{TypeNode}
 use Rattle.format.specs.declared.node.TypeNode.TheVariants as tn
-use Rattle.format.specs.Lists.{from, from_drop}
+use Rattle.format.specs.Lists.{from}
 use Rattle.format.specs.Bytes.{length_le}
 use Rattle.format.specs.Trees.{fits_append, node_opened}
 use Rattle.format.specs.TypeLaws.{ty_laws}
-use Rattle.ranks.specs.Ranks.{In, Among, names_of, Listed}
+use Rattle.ranks.specs.Ranks.{Among, names_of, Listed}
 use Rattle.ranks.specs.Known.{AllIn, KnowsAll, names_all, head_names, Kept, Took, NamesTaken, HeadTaken, TypesTaken}
 use Rattle.ranks.specs.declared.names.Names.{Names}
 use Rattle.ranks.proofs.Placed.{read_same, read_next, read_within, not_stuck, after_front, front_within}

@@ -1,6 +1,6 @@
 -- Names in order, each once.
-use Rattle.std.specs.Prelude.{◌≡◌, ℕ, zero, suc, ◌+◌, ◌<◌, ◌≤◌, Bool, true, false, List, [], ◌∷◌, ◌++◌, map, length, get_or, take, drop, Some, None, vec_items, vec_len, vec_capacity, Option, slice_index_or}
-use Rattle.query.specs.Data.{Name, same_text, less_text}
+use Rattle.std.specs.Prelude.{◌≡◌, ℕ, ◌+◌, ◌<◌, ◌≤◌, true, List, [], ◌∷◌, length, get_or, take, drop, Some, None, vec_items, vec_capacity, Option, slice_index_or}
+use Rattle.query.specs.Data.{Name, less_text}
 use Rattle.ranks.specs.declared.compare.Way.{Way}
 use Rattle.ranks.specs.declared.compare.Way.TheVariants.{Less, Same, More}
 use Rattle.ranks.specs.declared.names.Place.{Place}

@@ -1,4 +1,6 @@
 // Tables of a file of requests, loaded into memory and written out again: how many, and how many came out as they stood, byte for byte.
+#![tactic(auto)]
+
 mod trip;
 
 use serving::fault::Fault;

@@ -1,5 +1,7 @@
 // Serving a file of requests: it is read through a large buffer, each request is put to the desk with the memory that the file lends it, and a
 // line is written for each answer.
+#![tactic(auto)]
+
 pub mod answers;
 pub mod call;
 pub mod fault;

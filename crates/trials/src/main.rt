@@ -1,5 +1,7 @@
 // The program once more, on a thousand requests from a generator: typed queries over random schemas, and requests that are off in one way or
 // another. Its lines are compared with the right ones.
+#![tactic(auto)]
+
 use serving::serve;
 use std::process::ExitCode;
 

@@ -1,7 +1,7 @@
 -- A request's query: its names gathered, its schema's types read, its type told.
-use Rattle.std.proofs.Common.{◌≡◌, ℕ, zero, suc, ◌+◌, ◌*◌, ◌<◌, ◌≤◌, true, false, List, [], ◌∷◌, ◌++◌, length, get_or, drop, Some, None, vec_items, vec_len, vec_capacity, Option, sym, refl, ap, ◌∙◌, subst, ap₂, arith}
+use Rattle.std.proofs.Common.{◌≡◌, ℕ, zero, suc, ◌+◌, ◌*◌, ◌<◌, ◌≤◌, true, List, [], ◌∷◌, ◌++◌, length, get_or, drop, Some, None, vec_items, vec_len, vec_capacity, Option, sym, ap, ◌∙◌, subst, arith}
 use mathlib.Core.Bool.{false≢true}
-use Rattle.std.proofs.lemmas.List.{append_assoc, append-nil, length-append, drop_more, drop_all}
+use Rattle.std.proofs.lemmas.List.{append_assoc, append-nil, drop_more, drop_all}
 use Rattle.query.specs.Data.{Name}
 use Rattle.query.specs.Query.{Ty, a_unit, Query}
 use Rattle.query.specs.Types.{Schema, type_of, type_asked}
@@ -10,12 +10,12 @@ use Rattle.checks.specs.Checks.{SchemaAt, QueryAt}
 use Rattle.guide.specs.Guide.{Guided}
 use Rattle.guide.proofs.Sizes.{nesting_parts}
 use Rattle.ranks.specs.Ranks.{names_of}
-use Rattle.ranks.specs.Known.{Knows, KnowsAll, names_all, Gathered}
+use Rattle.ranks.specs.Known.{Knows, KnowsAll, Gathered}
 use Rattle.ranks.specs.declared.names.Names.{Names}
 use Rattle.ranks.proofs.Listings.{names_length}
-use Rattle.types.specs.Shapes.{s_unit, shapes, built, meaning, types, type_at, Below, Good}
+use Rattle.types.specs.Shapes.{s_unit, shapes, built, meaning, type_at, Below}
 use Rattle.types.specs.Tables.{Sound, Lies}
-use Rattle.types.specs.Operators.{NamesOf, types_of}
+use Rattle.types.specs.Operators.{types_of}
 use Rattle.types.specs.Outcomes.{look, size, spread, Tidy, Room, told, Grew}
 use Rattle.types.specs.declared.table.Table.{Table}
 use Rattle.types.specs.declared.entry.Entry.{Entry}
@@ -23,7 +23,7 @@ use Rattle.types.specs.declared.entry.Entry.TheVariants.{Unit as Unit'}
 use Rattle.types.specs.declared.entry.Field.{Field}
 use Rattle.types.proofs.Meanings.{size_grows, kept_at}
 use Rattle.typing.specs.Costs.{wide}
-use Rattle.typing.specs.Loads.{sizes, LoadTold, Loaded}
+use Rattle.typing.specs.Loads.{LoadTold, Loaded}
 use Rattle.typing.specs.declared.work.Work.{Work}
 use Rattle.typing.proofs.Bounds.{Enough, enough, schema_few}
 use Rattle.typed.specs.Walks.{setting, Asked, Walked}

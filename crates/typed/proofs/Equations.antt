@@ -1,7 +1,7 @@
 -- The types of queries, by how those of their parts are put together.
-use Rattle.std.proofs.Common.{◌≡◌, List, [], ◌∷◌, sym, refl, ap, ◌∙◌}
+use Rattle.std.proofs.Common.{◌≡◌, List, [], ◌∷◌, refl, ap}
 use Rattle.query.specs.Query.{Ty, a_bag, a_rec, Query, then, with_env, either}
-use Rattle.query.specs.Types.{Sides, sides_of, same_ty, elem, on_ty, if_so, get_ty, both_tys, fields_in, type1, type2, Schema, type_of}
+use Rattle.query.specs.Types.{Sides, sides_of, same_ty, elem, on_ty, if_so, get_ty, both_tys, fields_in, type2, Schema, type_of}
 use Rattle.typed.specs.Shaped.{Made1, op1, on_left, on_right, one_query, one_type, Made2, op2, all, where_same, or_else, two_query, two_type, over_query, over_type}
 use Rattle.typed.specs.declared.shape.Over.{Over}
 use Rattle.typed.specs.declared.shape.Over.TheVariants as ov

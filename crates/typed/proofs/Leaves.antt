@@ -1,7 +1,7 @@
 -- The types of what has no parts.
-use Rattle.std.proofs.Common.{◌≡◌, ℕ, zero, suc, ◌+◌, ◌*◌, ◌<◌, ◌≤◌, List, [], ◌∷◌, ◌++◌, length, get_or, drop, Some, None, Option, sym, refl, ap, ◌∙◌, subst, arith}
+use Rattle.std.proofs.Common.{◌≡◌, ℕ, zero, suc, ◌+◌, ◌*◌, ◌<◌, ◌≤◌, List, [], ◌∷◌, ◌++◌, length, get_or, drop, Some, Option, sym, refl, ap, ◌∙◌, subst, arith}
 use Rattle.query.specs.Data.{Name}
-use Rattle.query.specs.Query.{Ty, Query, table, it, env, just}
+use Rattle.query.specs.Query.{Query, table, it, env, just}
 use Rattle.query.specs.Types.{ty_at, type_of}
 use Rattle.query.specs.Size.{size_q}
 use Rattle.format.specs.Wire.{write_ty, write_data, FitsQuery}

@@ -1,8 +1,7 @@
 -- What is told of operators on the types of one part, or of two.
-use Rattle.std.proofs.Common.{◌≡◌, ℕ, zero, suc, ◌+◌, ◌*◌, ◌<◌, ◌≤◌, Bool, true, false, List, [], ◌∷◌, ◌++◌, length, get_or, drop, Some, None, vec_items, Option, sym, refl, ap, ◌∙◌, subst, ap₂, arith}
+use Rattle.std.proofs.Common.{◌≡◌, ℕ, ◌+◌, ◌<◌, ◌≤◌, Bool, true, false, List, [], ◌∷◌, ◌++◌, drop, Some, None, vec_items, Option, sym, refl, ap, ◌∙◌, subst, arith}
 use Rattle.std.proofs.lemmas.List.{append_assoc}
-use Rattle.query.specs.Data.{Name}
-use Rattle.query.specs.Query.{Ty, an_either, Query, one, matched, as_left, as_right, join_bags}
+use Rattle.query.specs.Query.{Ty, an_either, Query, one, as_left, as_right, join_bags}
 use Rattle.query.specs.Types.{sound, on_ty, if_so, type2}
 use Rattle.query.specs.Size.{size_q}
 use Rattle.format.specs.Coding.{name}
@@ -20,7 +19,7 @@ use Rattle.types.specs.declared.entry.Entry.TheVariants.{Either}
 use Rattle.types.proofs.Meanings.{kept_at, meant_as, meant_more, bind_none, bind_some}
 use Rattle.typing.specs.Typed.{TypeTold, OpTold, MatchedTold}
 use Rattle.typing.proofs.Bounds.{query_few}
-use Rattle.typed.specs.Shaped.{Made1, on_left, on_right, one_query, one_type, one_types, one_fields, IsSingle, Made2, two_query, two_type, IsJoint}
+use Rattle.typed.specs.Shaped.{Made1, one_query, one_type, one_types, one_fields, IsSingle, Made2, two_query, two_type, IsJoint}
 use Rattle.typed.specs.Walks.{Setting, names_in, Asked, SingleTold, JointTold}
 use Rattle.typed.specs.declared.shape.Single.{Single}
 use Rattle.typed.specs.declared.shape.Single.TheVariants as sg

@@ -1,5 +1,5 @@
 -- Parts of a query: where they stand, how large they are, which names they have, and how many types and fields theirs may take.
-use Rattle.std.proofs.Common.{◌≡◌, ℕ, suc, ◌+◌, ◌-◌, ◌*◌, ◌<◌, ◌≤◌, List, [], ◌∷◌, ◌++◌, length, get_or, drop, sym, refl, ap, ◌∙◌, subst, arith, length-append, length-drop}
+use Rattle.std.proofs.Common.{◌≡◌, ℕ, ◌+◌, ◌-◌, ◌*◌, ◌≤◌, List, [], ◌∷◌, ◌++◌, length, get_or, drop, sym, refl, ap, ◌∙◌, subst, arith, length-append, length-drop}
 use Rattle.std.proofs.lemmas.List.{drop-drop}
 use Rattle.query.specs.Data.{Name}
 use Rattle.query.specs.Query.{Query, table, it, env, just, two, one, each, keep, product, matched, default, as_left, as_right, either, then, with_env}
@@ -7,7 +7,7 @@ use Rattle.query.specs.Size.{size_q}
 use Rattle.format.specs.Coding.{name}
 use Rattle.format.specs.Wire.{write_1, write_ty, write_data, write_query}
 use Rattle.guide.specs.Guide.{first_part, last_part, Guided}
-use Rattle.guide.proofs.Shapes.{parts, single, pair, single_long, pair_long}
+use Rattle.guide.proofs.Shapes.{parts, single, pair}
 use Rattle.guide.proofs.Standing.{only_stands, first_stands, last_stands}
 use Rattle.ranks.specs.Known.{Knows}
 use Rattle.typing.specs.Costs.{wide}

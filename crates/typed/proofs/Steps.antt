@@ -1,9 +1,9 @@
 -- A step of the walk.
-use Rattle.std.proofs.Common.{◌≡◌, ℕ, ◌+◌, ◌-◌, ◌<◌, ◌≤◌, length, Some, None, sym, refl, ap, ◌∙◌, subst, arith}
+use Rattle.std.proofs.Common.{◌≡◌, ℕ, ◌+◌, ◌-◌, ◌≤◌, length, Some, None, ap, ◌∙◌, arith}
 use Rattle.typing.specs.Visits.{SeenAt}
 use Rattle.typing.specs.declared.visit.Seen.{Seen}
 use Rattle.typed.specs.Shaped.{TellsShape}
-use Rattle.typed.specs.Walks.{Setting, Asked, Stepped}
+use Rattle.typed.specs.Walks.{Setting, Stepped}
 use Rattle.typed.specs.declared.shape.Shape.{Shape}
 use Rattle.typed.proofs.Parts.{first_within, last_within, in_bytes}
 

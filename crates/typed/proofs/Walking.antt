@@ -1,14 +1,12 @@
 -- The walk: what is told of a query by what is told of its parts.
-use Rattle.std.proofs.Common.{◌≡◌, ℕ, ◌+◌, ◌-◌, ◌*◌, ◌<◌, ◌≤◌, List, [], ◌∷◌, length, get_or, drop, Some, None, Option, sym, refl, ap, ◌∙◌, subst, ap₂, arith}
-use Rattle.query.specs.Data.{Name}
-use Rattle.query.specs.Query.{Ty, Query, then, with_env, either}
+use Rattle.std.proofs.Common.{◌≡◌, ℕ, ◌-◌, ◌*◌, ◌<◌, ◌≤◌, List, [], ◌∷◌, Some, None, Option, sym, refl, ap, ◌∙◌, subst, ap₂, arith}
+use Rattle.query.specs.Query.{Ty, Query}
 use Rattle.query.specs.Types.{sides_of, same_ty, elem, on_ty, if_so, type_of}
 use Rattle.query.specs.Size.{size_q}
-use Rattle.guide.specs.Guide.{first_part, last_part}
 use Rattle.guide.proofs.Sizes.{nesting_some}
 use Rattle.types.specs.Shapes.{type_at, Ranked}
 use Rattle.types.specs.Operators.{types_of}
-use Rattle.types.specs.Outcomes.{look, size, Tidy, Grew, Meant, Says}
+use Rattle.types.specs.Outcomes.{look, size, Grew, Meant, Says}
 use Rattle.types.specs.declared.table.Table.{Table}
 use Rattle.types.specs.declared.entry.Two.{Two}
 use Rattle.types.proofs.Meanings.{size_grows, kept_at, ranked_as, stays, meant_as, meant_more, bind_none, bind_some, Sided}
@@ -17,7 +15,7 @@ use Rattle.typing.specs.Loads.{Fit}
 use Rattle.typing.specs.declared.work.Work.{Work}
 use Rattle.typing.proofs.TypeMade.{ranked}
 use Rattle.typing.proofs.Loading.{types_kept, numbers_kept}
-use Rattle.typed.specs.Shaped.{Shaped, one_query, one_type, one_types, one_fields, two_query, two_type, over_query, over_type}
+use Rattle.typed.specs.Shaped.{Shaped, one_type, one_types, one_fields, two_type, over_type}
 use Rattle.typed.specs.Walks.{Setting, names_in, Asked, Ready, type_by, Walked, Stepped, LeafTold, SingleTold, JointTold}
 use Rattle.typed.specs.declared.shape.Leaf.{Leaf}
 use Rattle.typed.specs.declared.shape.Single.{Single}
@@ -26,7 +24,7 @@ use Rattle.typed.specs.declared.shape.Over.{Over}
 use Rattle.typed.specs.declared.shape.Shape.{Shape}
 use Rattle.typed.specs.declared.shape.Shape.TheVariants as sh
 use Rattle.typed.specs.declared.step.Step.{Step}
-use Rattle.typed.proofs.Parts.{OnePart, one_part, TwoParts, two_parts, over_parts, then_parts, env_parts, either_parts, only_told, only_asked, both_told, first_asked, last_asked}
+use Rattle.typed.proofs.Parts.{one_part, two_parts, over_parts, then_parts, env_parts, either_parts, only_told, only_asked, both_told, first_asked, last_asked}
 use Rattle.typed.proofs.Equations.{type_one, type_two, type_over, type_then, type_with_env, type_either, type_no_sides}
 
 -- what is in order stays so while the table grows

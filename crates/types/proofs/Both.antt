@@ -1,10 +1,8 @@
 -- Two records in one. Assumes nothing.
-use Rattle.std.proofs.Common.{◌≡◌, ℕ, zero, suc, ◌+◌, ◌-◌, ◌<◌, ◌≤◌, Bool, true, false, T, eqb, ltb, ◌⊎◌, List, [], ◌∷◌, ◌++◌, length, get_or, take, drop, sym, refl, ap, ◌∙◌, subst, ap₂, inl, inr, arith, eq-eqb}
-use Rattle.query.specs.Data.{pick, Name, same_text, less_text}
-use Rattle.query.specs.Query.{Ty, a_unit, Tys, no_ty, ty}
-use Rattle.query.specs.Types.{get_ty, put_ty, both_tys}
-use Rattle.types.specs.Shapes.{run, Ranked, Rising}
-use Rattle.types.specs.Fields.{get_f, put_f, both_f, Stepped}
+use Rattle.std.proofs.Common.{◌≡◌, ℕ, zero, suc, ◌+◌, ◌<◌, ◌≤◌, Bool, true, false, eqb, ltb, ◌⊎◌, List, [], ◌∷◌, length, drop, sym, refl, ap, ◌∙◌, subst, ap₂, inl, inr, arith}
+use Rattle.query.specs.Data.{pick}
+use Rattle.types.specs.Shapes.{Rising}
+use Rattle.types.specs.Fields.{put_f, both_f, Stepped}
 use Rattle.types.specs.declared.entry.Field.{Field}
 
 pub eqb_no : (a b : ℕ) → (a ≡ b → ⊥) → eqb a b ≡ false

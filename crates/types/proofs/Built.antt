@@ -1,8 +1,8 @@
 -- Lists made from the left. Assumes nothing.
-use Rattle.std.proofs.Common.{◌≡◌, ℕ, zero, suc, ◌+◌, ◌<◌, ◌≤◌, List, [], ◌∷◌, ◌++◌, length, get_or, take, drop, sym, refl, ap, ◌∙◌, subst, ap₂, arith}
-use Rattle.std.proofs.lemmas.List.{length-append, get_or_append_left, get_or_at, append-nil, length-take-le, get_or-take, take-append-drop}
+use Rattle.std.proofs.Common.{◌≡◌, ℕ, zero, suc, ◌+◌, ◌<◌, List, [], ◌∷◌, ◌++◌, length, get_or, take, drop, sym, refl, ap, ◌∙◌, ap₂, arith}
+use Rattle.std.proofs.lemmas.List.{length-append, get_or_append_left, get_or_at, length-take-le, take-append-drop}
 use Rattle.query.specs.Data.{Name}
-use Rattle.query.specs.Query.{Ty, a_unit, a_num, a_truth, a_text, a_bag, a_rec, an_either, Tys, no_ty, ty}
+use Rattle.query.specs.Query.{Ty, a_unit, a_bag, a_rec, an_either, Tys, ty}
 use Rattle.types.specs.Shapes.{Shape, s_unit, s_num, s_truth, s_text, s_bag, s_either, s_rec, built, run, meaning, types, type_at, Rising, Below, Good, Grown}
 use Rattle.types.specs.declared.entry.Field.{Field}
 

@@ -1,12 +1,12 @@
 -- The fields of a record that stay.
-use Rattle.std.proofs.Common.{◌≡◌, ℕ, zero, suc, ◌+◌, ◌-◌, ◌<◌, ◌≤◌, Bool, true, false, not, ◌||◌, eqb, List, [], ◌∷◌, ◌++◌, length, get_or, take, drop, sym, refl, ap, ◌∙◌, subst, ap₂, arith}
+use Rattle.std.proofs.Common.{◌≡◌, ℕ, zero, suc, ◌+◌, ◌<◌, ◌≤◌, Bool, true, false, ◌||◌, List, [], ◌∷◌, ◌++◌, length, get_or, take, drop, sym, refl, ap, ◌∙◌, arith}
 use Rattle.std.proofs.lemmas.List.{length-append, append_assoc, append-nil, drop_more, drop_all}
 use Rattle.query.specs.Data.{pick}
 use Rattle.types.specs.Shapes.{Rising}
 use Rattle.types.specs.Tables.{no_such}
 use Rattle.types.specs.Fields.{in_f, as_told, kept_f}
 use Rattle.types.specs.declared.entry.Field.{Field}
-use Rattle.types.proofs.Runs.{run_step, run_end, run_kept, run_length}
+use Rattle.types.proofs.Runs.{run_step, run_end}
 use Rattle.types.proofs.Both.{pick_true, pick_false, rising_low, rising_length, eqb_yes, eqb_no}
 
 -- a list looked through from the front

@@ -1,7 +1,7 @@
 -- A table with one more shape, or none. Assumes nothing.
-use Rattle.std.proofs.Common.{◌≡◌, ℕ, zero, suc, ◌+◌, ◌-◌, ◌<◌, ◌≤◌, ◌⊎◌, List, [], ◌∷◌, ◌++◌, length, get_or, take, drop, Some, None, sym, refl, ap, ◌∙◌, subst, ap₂, inl, inr, arith}
-use Rattle.std.proofs.lemmas.List.{length-append, length-drop, length-take-le, get_or_append_left, get_or_at, append-nil, ext_get_or, take_all, take-take, drop-take, length_push}
-use Rattle.types.specs.Shapes.{Shape, s_unit, s_num, s_truth, s_text, s_bag, s_either, s_rec, shape, shapes, Rising, Below, Good, Grown}
+use Rattle.std.proofs.Common.{◌≡◌, ℕ, zero, suc, ◌+◌, ◌-◌, ◌<◌, ◌≤◌, ◌⊎◌, List, [], ◌∷◌, ◌++◌, length, get_or, take, drop, Some, None, sym, refl, ap, ◌∙◌, subst, inl, inr, arith}
+use Rattle.std.proofs.lemmas.List.{length-append, length-drop, length-take-le, get_or_append_left, get_or_at, append-nil, ext_get_or, take_all, take-take, drop-take}
+use Rattle.types.specs.Shapes.{Shape, s_unit, s_rec, shape, shapes, Rising, Below, Good, Grown}
 use Rattle.types.specs.Tables.{Lies, Sound, Made, Found}
 use Rattle.types.specs.declared.entry.Field.{Field}
 use Rattle.types.specs.declared.entry.Entry.{Entry}

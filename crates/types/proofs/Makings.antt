@@ -1,11 +1,11 @@
 -- Records made of names and types one by one.
-use Rattle.std.proofs.Common.{◌≡◌, ℕ, zero, suc, ◌+◌, ◌-◌, ◌<◌, ◌≤◌, Bool, true, false, ◌&&◌, leb, List, [], ◌∷◌, ◌++◌, length, get_or, take, drop, Some, None, vec_items, sym, refl, ap, ◌∙◌, subst, ap₂, true≢false, add-one, arith, leb-true}
+use Rattle.std.proofs.Common.{◌≡◌, ℕ, suc, ◌+◌, ◌<◌, ◌≤◌, Bool, true, false, ◌&&◌, leb, List, [], ◌∷◌, ◌++◌, length, get_or, drop, Some, vec_items, sym, refl, ap, ◌∙◌, ap₂, add-one, arith, leb-true}
 use Rattle.std.proofs.lemmas.List.{length-append, append_assoc, append-nil, drop_more, drop_all}
 use Rattle.query.specs.Data.{Name}
-use Rattle.query.specs.Query.{Ty, a_unit, a_rec, Tys, no_ty, ty}
+use Rattle.query.specs.Query.{a_rec, Tys, ty}
 use Rattle.query.specs.Types.{if_so}
 use Rattle.query.proofs.Tests.{and_l, and_r}
-use Rattle.types.specs.Shapes.{Shape, s_rec, run, meaning, types, type_at, Ranked, Rising, Below}
+use Rattle.types.specs.Shapes.{Shape, s_rec, run, meaning, types, type_at, Rising, Below}
 use Rattle.types.specs.Fields.{zip_f, rise}
 use Rattle.types.specs.Tables.{Made}
 use Rattle.types.specs.Operators.{NamesOf, named, types_of, zip_ty}

@@ -1,13 +1,13 @@
 -- From numbers to types: what holds of a table's entries, and how outcomes are put together.
-use Rattle.std.proofs.Common.{◌≡◌, ℕ, zero, suc, ◌+◌, ◌-◌, ◌<◌, ◌≤◌, Bool, true, false, ◌⊎◌, List, [], ◌∷◌, ◌++◌, map, length, get_or, take, drop, Some, None, vec_items, vec_len, vec_capacity, Option, sym, refl, ap, ◌∙◌, subst, ap₂, inl, inr, arith}
+use Rattle.std.proofs.Common.{◌≡◌, ℕ, suc, ◌+◌, ◌<◌, ◌≤◌, Bool, true, false, List, [], ◌∷◌, ◌++◌, length, get_or, take, drop, Some, None, vec_items, Option, sym, refl, ap, ◌∙◌, subst, arith}
 use Rattle.query.specs.Data.{Name}
-use Rattle.query.specs.Query.{Ty, a_unit, a_num, a_truth, a_text, a_bag, a_rec, an_either, Tys}
-use Rattle.query.specs.Types.{same_ty, as_num, elem, fields_of, Sides, sides_of, on_ty}
+use Rattle.query.specs.Query.{Ty, a_truth, a_rec}
+use Rattle.query.specs.Types.{same_ty, as_num, elem, fields_of, sides_of, on_ty}
 use Rattle.query.proofs.TypeParts.{same_ty_out, same_ty_self}
 use Rattle.std.proofs.lemmas.List.{append_assoc, length-append}
-use Rattle.types.specs.Shapes.{Shape, s_unit, s_num, s_truth, s_text, s_bag, s_either, s_rec, shape, shapes, run, meaning, types, type_at, Ranked, Rising, Below, Good, Grown}
-use Rattle.types.specs.Tables.{Sound, Made, Kept, Lies, Open, bag_part, run_part, sides_part, truth_part, num_part}
-use Rattle.types.specs.Outcomes.{look, size, spread, Tidy, Room, Spare, told, Within, Grew, Meant, Says}
+use Rattle.types.specs.Shapes.{Shape, shape, run, meaning, types, type_at, Ranked, Rising, Below, Grown}
+use Rattle.types.specs.Tables.{Sound, Made, Kept, Lies, bag_part, run_part, sides_part, truth_part, num_part}
+use Rattle.types.specs.Outcomes.{look, size, spread, Tidy, Room, told, Within, Grew, Meant, Says}
 use Rattle.types.specs.declared.entry.Field.{Field}
 use Rattle.types.specs.declared.entry.Entry.{Entry}
 use Rattle.types.specs.declared.entry.Entry.TheVariants.{Unit as Unit', Num, Truth, Text, Bag, Either, Record}

@@ -1,7 +1,7 @@
 -- Types of what operators come to, by what is known of the types that they are given.
-use Rattle.std.proofs.Common.{◌≡◌, ℕ, Bool, true, false, ◌&&◌, List, [], ◌∷◌, sym, refl, ap, ◌∙◌, subst, ap₂, true≢false, arith}
+use Rattle.std.proofs.Common.{◌≡◌, Bool, true, false, ◌&&◌, List, [], ◌∷◌, sym, refl, ap, ◌∙◌, true≢false}
 use mathlib.Core.Bool.{false≢true}
-use Rattle.query.specs.Query.{Op1, not_so, in_bag, flat, count, sum, distinct, Op2, equal, and, or, plus, less, join_bags, join_recs, within, Ty, a_num, a_truth, a_bag, Tys}
+use Rattle.query.specs.Query.{not_so, flat, count, sum, distinct, equal, and, or, plus, less, join_bags, within, Ty, a_num, a_truth, a_bag}
 use Rattle.query.specs.Types.{same_ty, as_num, elem, on_ty, if_so, type1, type2}
 use Rattle.query.proofs.TypeParts.{same_ty_out, same_ty_self, elem_out, num_out}
 

@@ -1,11 +1,11 @@
 -- Types of products and matchings, step by step.
-use Rattle.std.proofs.Common.{◌≡◌, ℕ, ◌+◌, ◌<◌, ◌≤◌, Bool, true, false, List, [], ◌∷◌, length, get_or, Some, None, Option, sym, refl, ap, ◌∙◌, subst, ap₂, arith}
+use Rattle.std.proofs.Common.{◌≡◌, ℕ, true, false, List, [], ◌∷◌, Some, None, Option, sym, refl, ◌∙◌, ap₂, arith}
 use Rattle.query.specs.Data.{Name}
 use Rattle.query.specs.Query.{in_bag, dot, join_recs, Ty, a_bag, a_rec, Tys}
 use Rattle.query.specs.Types.{same_ty, elem, fields_of, on_ty, if_so, get_ty, both_tys, type1, type2, fields_in}
 use Rattle.types.specs.Shapes.{type_at}
 use Rattle.types.specs.Operators.{product_ty, matched_ty, paired_ty}
-use Rattle.types.specs.Outcomes.{look, Room, told, Meant}
+use Rattle.types.specs.Outcomes.{look, Meant}
 use Rattle.types.specs.declared.table.Table.{Table}
 use Rattle.types.proofs.Meanings.{meant_more, meant_if, bind_none, bind_some, stays_if, seen}
 use Rattle.types.proofs.Operators.{on_is, on_none, if_yes, if_no}

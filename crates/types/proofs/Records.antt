@@ -1,20 +1,20 @@
 -- Records by the numbers of names and types: a field taken, two in one, and the fields that stay.
-use Rattle.std.proofs.Common.{◌≡◌, ℕ, zero, suc, ◌+◌, ◌-◌, ◌<◌, ◌≤◌, Bool, true, false, not, ◌||◌, T, eqb, ltb, ◌⊎◌, List, [], ◌∷◌, ◌++◌, map, length, get_or, take, drop, Some, None, vec_items, Option, sym, refl, ap, ◌∙◌, subst, ap₂, inl, inr, arith}
-use Rattle.query.specs.Data.{pick, Name, same_text, less_text, one_of}
-use Rattle.query.specs.Query.{Op2, join_recs, Op1, dot, as_field, without, project, Ty, a_unit, a_rec, Tys, no_ty, ty}
+use Rattle.std.proofs.Common.{◌≡◌, ℕ, suc, ◌<◌, Bool, true, false, not, ◌||◌, eqb, ltb, ◌⊎◌, List, [], ◌∷◌, map, get_or, take, drop, Some, None, vec_items, Option, sym, refl, ap, ◌∙◌, subst, ap₂, inl, inr, arith}
+use Rattle.query.specs.Data.{pick, Name, one_of}
+use Rattle.query.specs.Query.{join_recs, dot, as_field, without, project, Ty, a_unit, a_rec, Tys, ty}
 use Rattle.query.specs.Types.{fields_of, on_ty, get_ty, put_ty, both_tys, left_out_ty, only_tys, type1, type2}
 use Rattle.types.specs.Shapes.{Shape, s_rec, run, meaning, types, type_at, Ranked, Rising, Below}
 use Rattle.types.specs.Fields.{get_f, put_f, both_f, in_f, as_told, kept_f, listed}
 use Rattle.types.specs.Tables.{Made, run_part}
 use Rattle.types.specs.Operators.{NamesOf, named}
-use Rattle.types.specs.Outcomes.{look, size, Tidy, Room, told, Within, Grew, Meant, Says}
+use Rattle.types.specs.Outcomes.{look, size, Tidy, told, Within, Grew, Meant, Says}
 use Rattle.types.specs.declared.entry.Field.{Field}
 use Rattle.types.specs.declared.entry.Entry.TheVariants.{Unit as Unit'}
 use Rattle.types.specs.declared.entry.Run.{Run}
 use Rattle.types.specs.declared.table.Table.{Table}
 use Rattle.types.proofs.Both.{pick_true, pick_false, rising_low, both_rises, eqb_yes, eqb_no}
 use Rattle.types.proofs.Keeps.{kept_rises}
-use Rattle.types.proofs.Operators.{on_none, on_is}
+use Rattle.types.proofs.Operators.{on_none}
 use Rattle.types.proofs.Meanings.{Has, stay, stays, meant_more, made_says, fields_none}
 
 ap_pick : {A B : Type 0} (f : A → B) (b : Bool) (x y : A) → f (pick b x y) ≡ pick b (f x) (f y)

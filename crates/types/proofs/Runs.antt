@@ -1,6 +1,6 @@
 -- Runs of fields. Assumes nothing.
-use Rattle.std.proofs.Common.{◌≡◌, ℕ, zero, suc, ◌+◌, ◌-◌, ◌<◌, ◌≤◌, T, List, [], ◌∷◌, ◌++◌, length, get_or, take, drop, sym, refl, ap, ◌∙◌, subst, ap₂, add-zero, arith, below_more}
-use Rattle.std.proofs.lemmas.List.{get_or_default, drop_more, drop-take, drop-drop, take_at, drop_at, get_or_append_left, take-append-le, drop-append-le, drop_all, length-append, length-drop, length-take-le, get_or-take, get_or-drop, same_lists}
+use Rattle.std.proofs.Common.{◌≡◌, ℕ, ◌+◌, ◌-◌, ◌<◌, ◌≤◌, List, [], ◌∷◌, ◌++◌, length, get_or, take, drop, sym, ap, ◌∙◌, add-zero, arith, below_more}
+use Rattle.std.proofs.lemmas.List.{get_or_default, drop_more, drop-take, drop-drop, take-append-le, drop-append-le, drop_all, length-drop, length-take-le, get_or-take, get_or-drop, same_lists}
 use Rattle.types.specs.Tables.{no_such}
 use Rattle.types.specs.declared.entry.Field.{Field}
 

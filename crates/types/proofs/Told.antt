@@ -1,10 +1,10 @@
 -- One number for each type, one type for each number. Assumes nothing.
-use Rattle.std.proofs.Common.{◌≡◌, ℕ, zero, suc, ◌+◌, ◌<◌, ◌≤◌, Bool, true, false, not, T, eqb, List, [], ◌∷◌, ◌++◌, length, get_or, take, drop, sym, refl, ap, ◌∙◌, subst, ap₂, arith}
+use Rattle.std.proofs.Common.{◌≡◌, ℕ, zero, suc, ◌<◌, not, T, eqb, List, [], ◌∷◌, length, get_or, sym, refl, ap, ◌∙◌, ap₂, arith}
 use Rattle.query.specs.Data.{Name, same_text}
-use Rattle.query.specs.Query.{Ty, a_unit, a_num, a_truth, a_text, a_bag, a_rec, an_either, Tys, no_ty, ty}
+use Rattle.query.specs.Query.{Ty, a_unit, a_num, a_truth, a_text, a_bag, a_rec, an_either}
 use Rattle.query.proofs.Tests.{eqb_true}
 use Rattle.query.proofs.Texts.{same_text_self}
-use Rattle.types.specs.Shapes.{Shape, s_unit, s_num, s_truth, s_text, s_bag, s_either, s_rec, built, run, meaning, types, type_at, Ranked, Rising, Below, Good, Grown}
+use Rattle.types.specs.Shapes.{Shape, s_unit, s_num, s_truth, s_text, s_bag, s_either, s_rec, run, meaning, types, type_at, Ranked, Rising, Below, Good}
 use Rattle.types.specs.declared.entry.Field.{Field}
 use Rattle.types.proofs.Built.{type_is}
 

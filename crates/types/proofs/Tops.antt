@@ -1,13 +1,12 @@
 -- Fields put on top, to be a record. Assumes nothing.
-use Rattle.std.proofs.Common.{◌≡◌, ℕ, zero, suc, ◌+◌, ◌-◌, ◌<◌, ◌≤◌, List, [], ◌∷◌, ◌++◌, length, get_or, take, drop, sym, refl, ap, ◌∙◌, subst, ap₂, arith}
+use Rattle.std.proofs.Common.{◌≡◌, ℕ, ◌+◌, ◌-◌, ◌<◌, ◌≤◌, List, [], ◌∷◌, ◌++◌, length, take, drop, sym, refl, ap, ◌∙◌, subst, ap₂, arith}
 use Rattle.std.proofs.lemmas.List.{length-append, append_assoc, append-nil, take_at, drop_at}
-use Rattle.types.specs.Shapes.{Shape, s_rec, shapes, Rising, Good, Grown}
-use Rattle.types.specs.Tables.{Sound, Made, Kept}
+use Rattle.types.specs.Shapes.{Shape, s_rec, Rising}
+use Rattle.types.specs.Tables.{Sound, Made}
 use Rattle.types.specs.Fields.{both_f, Stepped}
 use Rattle.types.specs.declared.entry.Field.{Field}
 use Rattle.types.specs.declared.entry.Entry.{Entry}
 use Rattle.types.specs.declared.entry.Next.{Next}
-use Rattle.types.specs.declared.table.Table.{Table}
 use Rattle.types.proofs.Runs.{run_kept, run_rest, run_length, run_none}
 use Rattle.types.proofs.Both.{rising_drop, rising_length, both_rises}
 

@@ -1,5 +1,5 @@
 -- Operators by the numbers of names.
-use Rattle.std.specs.Prelude.{ℕ, ◌<◌, List, [], ◌∷◌, map, slice_index_or}
+use Rattle.std.specs.Prelude.{ℕ, ◌<◌, List, [], ◌∷◌, slice_index_or}
 use Rattle.query.specs.Data.{Name}
 use Rattle.query.specs.Query.{Op1, not_so, in_bag, flat, count, sum, distinct, join_recs, Ty, Tys, no_ty, ty, a_bag, a_rec}
 use Rattle.types.specs.Shapes.{Shape, type_at}

@@ -1,5 +1,5 @@
 -- What an operation on a table says of types.
-use Rattle.std.specs.Prelude.{◌≡◌, ℕ, ◌+◌, ◌<◌, ◌≤◌, Bool, true, false, List, [], ◌∷◌, length, get_or, Some, None, vec_items, vec_len, vec_capacity, Option}
+use Rattle.std.specs.Prelude.{◌≡◌, ℕ, ◌+◌, ◌<◌, ◌≤◌, Bool, true, false, List, [], ◌∷◌, length, Some, None, vec_items, vec_capacity, Option}
 use Rattle.query.specs.Data.{Name}
 use Rattle.query.specs.Query.{Ty}
 use Rattle.types.specs.Shapes.{Shape, shapes, type_at, Ranked, Grown}

@@ -1,6 +1,6 @@
 -- What a table holds. Assumes nothing: these are definitions.
-use Rattle.std.specs.Prelude.{◌≡◌, ℕ, ◌+◌, ◌<◌, ◌≤◌, Bool, true, false, List, [], ◌∷◌, ◌++◌, length, get_or, Some, None, vec_len, vec_capacity, Option, ◌≢◌, slice_index_or}
-use Rattle.types.specs.Shapes.{Shape, s_unit, shape, shapes, Good, Grown, Below}
+use Rattle.std.specs.Prelude.{◌≡◌, ℕ, ◌+◌, ◌<◌, ◌≤◌, Bool, true, false, List, length, get_or, Some, None, vec_len, vec_capacity, Option, ◌≢◌, slice_index_or}
+use Rattle.types.specs.Shapes.{Shape, s_unit, shape, shapes, Good, Grown}
 use Rattle.types.specs.declared.entry.Field.{Field}
 use Rattle.types.specs.declared.entry.Entry.{Entry}
 use Rattle.types.specs.declared.entry.Entry.TheVariants.{Unit as Unit', Num, Truth, Text, Bag, Either, Record}

@@ -1,4 +1,6 @@
 // Types by numbers: a table in which no type stands twice, so that types are compared by their numbers.
+#![tactic(auto)]
+
 pub mod apply;
 pub mod entry;
 pub mod intern;

@@ -1,22 +1,21 @@
 -- Data that are written out, and matchings by two names.
-use Rattle.std.proofs.Common.{◌≡◌, ℕ, zero, suc, ◌+◌, ◌-◌, ◌<◌, ◌≤◌, Bool, true, false, ◌&&◌, List, [], ◌∷◌, ◌++◌, length, get_or, take, drop, Some, None, Option, sym, refl, ap, ◌∙◌, subst, ap₂, arith, length-append}
+use Rattle.std.proofs.Common.{◌≡◌, ℕ, ◌+◌, ◌<◌, ◌≤◌, Bool, true, false, ◌&&◌, List, [], ◌∷◌, ◌++◌, length, get_or, drop, Some, None, Option, sym, refl, ap, ◌∙◌, ap₂, arith, length-append}
 use Rattle.std.proofs.lemmas.List.{append_assoc}
-use Rattle.query.specs.Data.{Name, Data}
+use Rattle.query.specs.Data.{Name}
 use Rattle.query.specs.Query.{Ty}
 use Rattle.query.specs.Types.{sound, is_of, if_so}
 use Rattle.format.specs.Coding.{le, name}
-use Rattle.format.specs.Wire.{write_ty, FitsTy, write_data, FitsData}
 use Rattle.format.specs.Bytes.{length_le}
 use Rattle.format.specs.Lists.{from, from_drop}
 use Rattle.of_type.specs.Told.{IsOfTold}
-use Rattle.ranks.specs.Ranks.{In, names_of}
+use Rattle.ranks.specs.Ranks.{names_of}
 use Rattle.ranks.specs.declared.names.Names.{Names}
 use Rattle.ranks.proofs.Placed.{after_front, front_within}
 use Rattle.types.specs.Shapes.{type_at}
 use Rattle.types.specs.Operators.{matched_ty}
 use Rattle.types.specs.Outcomes.{look, Meant}
 use Rattle.types.specs.declared.table.Table.{Table}
-use Rattle.types.proofs.Meanings.{meant_as, meant_if, stays_if}
+use Rattle.types.proofs.Meanings.{meant_as}
 use Rattle.typing.specs.Typed.{TypeTold, NameTold, DatumTold, MatchedTold}
 
 and_so : (a b : Bool) (y : Ty) → b ≡ true → if_so (a && b) (y ∷ []) ≡ if_so a (y ∷ [])

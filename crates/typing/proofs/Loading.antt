@@ -1,7 +1,7 @@
 -- Types made from the back, head by head.
-use Rattle.std.proofs.Common.{◌≡◌, ℕ, zero, suc, ◌+◌, ◌-◌, ◌<◌, ◌≤◌, Bool, true, false, ◌&&◌, ◌⊎◌, List, [], ◌∷◌, ◌++◌, length, get_or, take, drop, set, Some, None, vec_items, vec_len, vec_capacity, Option, sym, refl, ap, ◌∙◌, subst, ap₂, inl, inr, true≢false, add-one, arith, length-append, length-drop, length-set, drop-drop}
+use Rattle.std.proofs.Common.{◌≡◌, ℕ, zero, suc, ◌+◌, ◌-◌, ◌<◌, ◌≤◌, Bool, true, false, ◌&&◌, ◌⊎◌, List, [], ◌∷◌, ◌++◌, length, get_or, drop, set, Some, None, vec_items, Option, sym, refl, ap, ◌∙◌, subst, ap₂, inl, inr, add-one, arith, length-append, length-drop, length-set, drop-drop}
 use mathlib.Core.Bool.{false≢true}
-use Rattle.std.proofs.lemmas.List.{drop_more, drop_all, get_or_append_left, get_or_at}
+use Rattle.std.proofs.lemmas.List.{drop_all, get_or_append_left, get_or_at}
 use Rattle.query.specs.Data.{Name, less_text}
 use Rattle.query.specs.Query.{Ty, a_unit, a_num, a_truth, a_text, a_bag, a_rec, an_either, Tys, no_ty, ty}
 use Rattle.query.specs.Types.{sound, sounds, first_after, if_so}
@@ -18,15 +18,15 @@ use Rattle.ranks.specs.Ranks.{names_of}
 use Rattle.ranks.specs.Known.{AllIn, head_names, KnowsAll, names_t, names_ts, names_all}
 use Rattle.ranks.specs.declared.names.Names.{Names}
 use Rattle.ranks.proofs.Placed.{read_same, not_stuck}
-use Rattle.ranks.proofs.TypeHeads.{head_ty, kids_ty, listed_tys, kids_many, head_fits, forest, kids_names, names_append, ty_knows, join_knows, knows_append}
-use Rattle.types.specs.Shapes.{Shape, type_at, Grown}
+use Rattle.ranks.proofs.TypeHeads.{head_ty, kids_ty, listed_tys, kids_many, head_fits, forest, kids_names, names_append, ty_knows, join_knows}
+use Rattle.types.specs.Shapes.{Shape}
 use Rattle.types.specs.Operators.{NamesOf, types_of}
-use Rattle.types.specs.Outcomes.{look, size, spread, Tidy, Room, told, Grew, Meant}
+use Rattle.types.specs.Outcomes.{look, size, spread, Tidy, Room, Grew, Meant}
 use Rattle.types.specs.declared.table.Table.{Table}
-use Rattle.types.proofs.Meanings.{size_grows, kept_at, grew_two, grew_at, still, stay}
-use Rattle.typing.specs.Loads.{opened, head_long, walk, place, sizes, Walked, Headed, name_first, names_rise, head_sound, TypeMade, Fit, Placed, OnTop, LoadSays, LoadTold, Loaded}
+use Rattle.types.proofs.Meanings.{size_grows, kept_at, grew_two, grew_at, stay}
+use Rattle.typing.specs.Loads.{opened, walk, place, sizes, Walked, Headed, name_first, names_rise, head_sound, TypeMade, Fit, Placed, Loaded}
 use Rattle.typing.specs.declared.work.Work.{Work}
-use Rattle.typing.proofs.HeadNotes.{walk_sizes, length_sizes, walk_fits, walk_stands, kids_sizes}
+use Rattle.typing.proofs.HeadNotes.{walk_sizes, length_sizes, walk_fits, walk_stands}
 use Rattle.typing.proofs.TypeMade.{types_length}
 
 -- a type has fewer names than parts

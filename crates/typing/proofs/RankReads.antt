@@ -1,17 +1,16 @@
 -- The ranks of names, one after the other.
-use Rattle.std.proofs.Common.{◌≡◌, ℕ, zero, suc, ◌+◌, ◌-◌, ◌<◌, ◌≤◌, Bool, true, false, List, [], ◌∷◌, ◌++◌, length, get_or, take, drop, sym, refl, ap, ◌∙◌, subst, ap₂, true≢false, arith, length-append}
+use Rattle.std.proofs.Common.{◌≡◌, ℕ, suc, ◌+◌, ◌<◌, ◌≤◌, true, false, List, [], ◌∷◌, ◌++◌, length, get_or, take, drop, sym, refl, ap, ◌∙◌, subst, arith, length-append}
 use mathlib.Core.Bool.{false≢true}
 use Rattle.std.proofs.lemmas.List.{append_assoc, append-nil}
 use Rattle.query.specs.Data.{Name}
-use Rattle.format.specs.Coding.{Coding, le, name, writes, AllFit}
-use Rattle.format.specs.Reading.{Begins, ReadAs, Stuck}
+use Rattle.format.specs.Coding.{name, writes, AllFit}
+use Rattle.format.specs.Reading.{ReadAs, Stuck}
 use Rattle.format.specs.Lists.{from}
 use Rattle.format.specs.Codings.{name_way}
-use Rattle.ranks.specs.Ranks.{In, names_of, RankOf}
+use Rattle.ranks.specs.Ranks.{In, names_of}
 use Rattle.ranks.specs.Known.{AllIn}
 use Rattle.ranks.specs.declared.names.Names.{Names}
 use Rattle.ranks.proofs.Placed.{read_same, read_next, read_within, not_stuck, name_bytes}
-use Rattle.ranks.proofs.Listings.{part_same}
 use Rattle.types.specs.Operators.{NamesOf, named}
 use Rattle.typing.specs.Loads.{RanksRead}
 

@@ -1,13 +1,12 @@
 -- What is seen of a query.
-use Rattle.std.proofs.Common.{◌≡◌, ℕ, zero, suc, ◌+◌, ◌-◌, ◌<◌, ◌≤◌, List, [], ◌∷◌, ◌++◌, length, get_or, drop, Some, None, Option, sym, refl, ap, ◌∙◌, subst, ap₂, arith, length-append, length-drop}
+use Rattle.std.proofs.Common.{◌≡◌, ℕ, zero, suc, ◌+◌, ◌<◌, ◌≤◌, List, [], ◌∷◌, length, get_or, Some, None, sym, refl, ap, ◌∙◌, subst, arith, length-append, length-drop}
 use Rattle.query.specs.Query.{not_so, in_bag, flat, count, sum, distinct, dot, as_field, without, project, Query, table, it, env, just, two, one, each, keep, product, matched, default, as_left, as_right, either, then, with_env}
-use Rattle.format.specs.Wire.{write_query, FitsQuery, write_1, queries}
+use Rattle.format.specs.Wire.{write_query, write_1}
 use Rattle.format.specs.Lists.{from, from_drop}
-use Rattle.guide.specs.Guide.{first_part, last_part, Guided}
-use Rattle.guide.specs.Visits.{SaysLast, IsQuery, Visited}
+use Rattle.guide.specs.Guide.{Guided}
+use Rattle.guide.specs.Visits.{SaysLast, Visited}
 use Rattle.guide.specs.declared.Visit.{Visit}
-use Rattle.typing.specs.Visits.{Sees, SeenAt}
-use Rattle.typing.specs.declared.visit.Seen.{Seen}
+use Rattle.typing.specs.Visits.{SeenAt}
 
 pub says_last : (g : List ℕ) (pos : ℕ) (q : Query) → Guided g pos q → SaysLast (get_or g pos 0) q
 unfolding Guided SaysLast

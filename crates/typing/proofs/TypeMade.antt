@@ -1,20 +1,17 @@
 -- The type of a head, from those of its parts.
-use Rattle.std.proofs.Common.{◌≡◌, ℕ, zero, suc, ◌+◌, ◌-◌, ◌<◌, ◌≤◌, Bool, true, false, ◌&&◌, eqb, ltb, leb, ◌⊎◌, List, [], ◌∷◌, ◌++◌, length, get_or, take, drop, Some, None, Option, sym, refl, ap, ◌∙◌, subst, ap₂, inl, inr, true≢false, arith, length-append, length-drop}
+use Rattle.std.proofs.Common.{◌≡◌, ℕ, zero, suc, ◌+◌, ◌-◌, ◌<◌, ◌≤◌, Bool, true, false, ◌&&◌, eqb, ltb, leb, ◌⊎◌, List, [], ◌∷◌, ◌++◌, length, get_or, take, drop, None, Option, sym, refl, ap, ◌∙◌, subst, ap₂, inl, inr, true≢false, arith, length-append, length-drop}
 use mathlib.Core.Bool.{false≢true}
-use Rattle.std.proofs.lemmas.List.{drop_more, drop_all, append-nil, length-take-le}
+use Rattle.std.proofs.lemmas.List.{drop_more, length-take-le}
 use Rattle.query.specs.Data.{Name, same_text, less_text}
 use Rattle.query.specs.Query.{Ty, a_unit, a_num, a_truth, a_text, a_bag, a_rec, an_either, Tys, no_ty, ty}
 use Rattle.query.specs.Types.{if_so}
-use Rattle.query.proofs.Tests.{eqb_true}
 use Rattle.query.proofs.Texts.{same_text_self, same_text_true, less_self, less_trans, less_differs}
-use Rattle.format.specs.Coding.{name, writes, AllFit}
 use Rattle.format.specs.Wire.{names_ty}
 use Rattle.format.specs.Heads.{TyHead, unit_t, num_t, truth_t, text_t, bag_t, rec_t, either_t, write_ty_head, FitsTyHead, ty_arity}
 use Rattle.format.specs.Nodes.{TellsType}
 use Rattle.format.specs.declared.node.TypeNode.{TypeNode}
 use Rattle.format.specs.declared.node.TypeNode.TheVariants as tn
-use Rattle.format.specs.Lists.{append_same}
-use Rattle.ranks.specs.Ranks.{In, Ordered, names_of}
+use Rattle.ranks.specs.Ranks.{Ordered, names_of}
 use Rattle.ranks.specs.Known.{AllIn, head_names}
 use Rattle.ranks.specs.declared.names.Names.{Names}
 use Rattle.ranks.proofs.TypeHeads.{head_ty, kids_ty, listed_tys, kids_many}
@@ -23,12 +20,10 @@ use Rattle.ranks.proofs.Listings.{part_same}
 use Rattle.types.specs.Shapes.{Shape, type_at, Ranked}
 use Rattle.types.specs.Fields.{rise}
 use Rattle.types.specs.Operators.{NamesOf, named, types_of, zip_ty}
-use Rattle.types.specs.Outcomes.{look, Room, Meant}
+use Rattle.types.specs.Outcomes.{look, Meant}
 use Rattle.types.specs.declared.table.Table.{Table}
-use Rattle.types.proofs.Meanings.{stays, meant_as, meant_more}
-use Rattle.types.proofs.Operators.{if_yes, if_no}
+use Rattle.types.proofs.Meanings.{meant_as, meant_more}
 use Rattle.typing.specs.Loads.{name_first, names_rise, head_sound, TypeMade, RanksRead}
-use Rattle.typing.proofs.RankReads.{named_length}
 
 -- names in order are told by their numbers
 three : (i j : ℕ) → (i < j) ⊎ ((i ≡ j) ⊎ (j < i))

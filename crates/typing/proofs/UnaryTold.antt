@@ -1,27 +1,26 @@
 -- Operators of one with names.
-use Rattle.std.proofs.Common.{◌≡◌, ℕ, zero, suc, ◌+◌, ◌-◌, ◌<◌, ◌≤◌, Bool, true, false, List, [], ◌∷◌, ◌++◌, length, get_or, take, drop, Some, None, Option, sym, refl, ap, ◌∙◌, subst, ap₂, arith, length-append}
+use Rattle.std.proofs.Common.{◌≡◌, ℕ, suc, ◌+◌, ◌-◌, ◌<◌, ◌≤◌, Bool, true, false, List, [], ◌∷◌, ◌++◌, length, get_or, drop, Some, None, Option, sym, ap, ◌∙◌, subst, arith}
 use mathlib.Core.Bool.{false≢true}
 use Rattle.std.proofs.lemmas.List.{append_assoc}
 use Rattle.query.specs.Data.{Name}
 use Rattle.query.specs.Query.{Op1, not_so, in_bag, flat, count, sum, distinct, dot, as_field, without, project}
 use Rattle.query.specs.Types.{type1}
-use Rattle.format.specs.Coding.{le, name, writes, AllFit}
+use Rattle.format.specs.Coding.{le, name, writes}
 use Rattle.format.specs.Wire.{write_1, Fits1}
 use Rattle.format.specs.Nodes.{IsOp1}
 use Rattle.format.specs.declared.node.Unary.{Unary}
 use Rattle.format.specs.declared.node.Unary.TheVariants as uo
 use Rattle.format.specs.Bytes.{length_le}
-use Rattle.ranks.specs.Ranks.{In, names_of}
-use Rattle.ranks.specs.Known.{AllIn, Knows1, names_1}
+use Rattle.ranks.specs.Ranks.{names_of}
+use Rattle.ranks.specs.Known.{Knows1, names_1}
 use Rattle.ranks.specs.declared.names.Names.{Names}
 use Rattle.ranks.proofs.Placed.{after_front, front_within}
-use Rattle.types.specs.Shapes.{type_at, Ranked}
-use Rattle.types.specs.Operators.{NamesOf, named, Plain1, op_1}
-use Rattle.types.specs.Outcomes.{look, Room, Meant, Says}
+use Rattle.types.specs.Shapes.{type_at}
+use Rattle.types.specs.Operators.{named, Plain1, op_1}
+use Rattle.types.specs.Outcomes.{look, Meant}
 use Rattle.types.specs.declared.table.Table.{Table}
-use Rattle.types.proofs.Meanings.{meant_more}
 use Rattle.typing.specs.Loads.{RanksRead}
-use Rattle.typing.specs.Typed.{NameIs, NameTold, OpTold}
+use Rattle.typing.specs.Typed.{NameTold, OpTold}
 
 tag_front : (xs w rest : List ℕ) (t at : ℕ) → drop at xs ≡ (t ∷ w) ++ rest → drop (at + 1) xs ≡ w ++ rest
 tag_front xs w rest t at q = after_front xs (t ∷ []) (w ++ rest) at q

@@ -1,13 +1,12 @@
 -- Types that are written out, and names.
-use Rattle.std.proofs.Common.{◌≡◌, ℕ, zero, suc, ◌+◌, ◌-◌, ◌<◌, ◌≤◌, Bool, true, false, ◌&&◌, List, [], ◌∷◌, ◌++◌, length, get_or, take, drop, Some, None, vec_items, Option, sym, refl, ap, ◌∙◌, subst, ap₂, true≢false, arith, length-append, length-drop}
-use mathlib.Core.Bool.{false≢true}
-use Rattle.std.proofs.lemmas.List.{append-nil, drop_more, drop_all}
+use Rattle.std.proofs.Common.{◌≡◌, ℕ, ◌+◌, ◌-◌, ◌<◌, ◌≤◌, Bool, true, false, ◌&&◌, List, [], ◌∷◌, ◌++◌, length, get_or, take, drop, Some, None, vec_items, Option, sym, refl, ap, ◌∙◌, subst, arith, length-append, length-drop}
+use Rattle.std.proofs.lemmas.List.{append-nil, drop_more}
 use Rattle.query.specs.Data.{Name}
 use Rattle.query.specs.Query.{Ty, a_unit, a_num, a_truth, a_text, a_bag, a_rec, an_either}
-use Rattle.query.specs.Types.{sound, if_so}
+use Rattle.query.specs.Types.{sound}
 use Rattle.query.specs.Size.{size_t, all_sound}
-use Rattle.format.specs.Coding.{le, name, writes}
-use Rattle.format.specs.Wire.{write_ty, FitsTy, types}
+use Rattle.format.specs.Coding.{le, name}
+use Rattle.format.specs.Wire.{write_ty, FitsTy}
 use Rattle.format.specs.Bytes.{length_le}
 use Rattle.ranks.specs.Ranks.{In, names_of, RankOf}
 use Rattle.ranks.specs.Known.{KnowsTy, KnowsAll, names_t, names_all}
@@ -15,15 +14,14 @@ use Rattle.ranks.specs.declared.names.Names.{Names}
 use Rattle.ranks.proofs.Placed.{front_within, name_bytes}
 use Rattle.ranks.proofs.Listings.{part_same}
 use Rattle.types.specs.Shapes.{type_at}
-use Rattle.types.specs.Operators.{NamesOf, types_of}
-use Rattle.types.specs.Outcomes.{look, size, Tidy, Room, told, Grew, Meant}
+use Rattle.types.specs.Operators.{types_of}
+use Rattle.types.specs.Outcomes.{look, Room}
 use Rattle.types.specs.declared.table.Table.{Table}
-use Rattle.types.proofs.Meanings.{grew_at, stay}
 use Rattle.types.proofs.Operators.{if_yes, if_no}
 use Rattle.typing.specs.Loads.{sizes, LoadTold, Loaded}
-use Rattle.typing.specs.Typed.{TypeTold, NameIs, BelowNames, NameTold}
+use Rattle.typing.specs.Typed.{TypeTold, NameTold}
 use Rattle.typing.specs.declared.work.Work.{Work}
-use Rattle.typing.proofs.TypeMade.{types_length, first_below}
+use Rattle.typing.proofs.TypeMade.{types_length}
 
 ty_long : (y : Ty) → 0 < length (write_ty y)
 unfolding write_ty

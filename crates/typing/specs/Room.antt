@@ -1,5 +1,5 @@
 -- The room of the desk's own memory.
-use Rattle.std.specs.Prelude.{◌≡◌, ℕ, ◌≤◌, length, vec_items, vec_capacity}
+use Rattle.std.specs.Prelude.{◌≤◌, vec_capacity}
 use Rattle.typing.specs.Loads.{Fit}
 use Rattle.typing.specs.declared.memory.Memory.{Memory}
 

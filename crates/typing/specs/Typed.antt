@@ -1,5 +1,5 @@
 -- What is told of types that are written out in a query, and of operators with names.
-use Rattle.std.specs.Prelude.{◌≡◌, ℕ, zero, suc, ◌+◌, ◌*◌, ◌<◌, ◌≤◌, Bool, true, false, ◌&&◌, List, [], ◌∷◌, ◌++◌, length, drop, Some, None, Option, slice_index_or}
+use Rattle.std.specs.Prelude.{◌≡◌, ℕ, ◌<◌, ◌≤◌, ◌&&◌, List, [], ◌∷◌, ◌++◌, length, drop, Some, None, Option, slice_index_or}
 use Rattle.query.specs.Data.{Name, Data}
 use Rattle.query.specs.Query.{Ty, Op1}
 use Rattle.query.specs.Types.{sound, is_of, if_so, type1}

@@ -2,7 +2,7 @@
 use Rattle.std.specs.Prelude.{◌≡◌, ℕ, ◌+◌, ◌<◌, ◌≤◌, List, ◌++◌, length, drop, Some, None, Option, slice_index}
 use Rattle.query.specs.Query.{Query}
 use Rattle.format.specs.Wire.{write_query, FitsQuery}
-use Rattle.guide.specs.Guide.{first_part, last_part, Guided}
+use Rattle.guide.specs.Guide.{first_part, Guided}
 use Rattle.guide.specs.Visits.{IsQuery}
 use Rattle.typing.specs.declared.visit.Seen.{Seen}
 

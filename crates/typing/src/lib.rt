@@ -1,4 +1,6 @@
 // The type of a query, worked out from a request's bytes in memory of the desk's own.
+#![tactic(auto)]
+
 pub mod load;
 pub mod memory;
 pub mod parts;

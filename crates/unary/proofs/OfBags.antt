@@ -1,17 +1,17 @@
 -- What comes of bags.
-use Rattle.std.proofs.Common.{◌≡◌, ℕ, zero, suc, ◌+◌, ◌-◌, ◌*◌, ◌%◌, ◌<◌, ◌≤◌, Bool, true, false, List, [], ◌∷◌, length, Some, None, Ok, Err, Option, Result, sym, refl, ap, ◌∙◌, subst, arith}
+use Rattle.std.proofs.Common.{◌≡◌, ℕ, zero, suc, ◌+◌, ◌-◌, ◌*◌, ◌%◌, ◌<◌, ◌≤◌, List, [], length, Some, None, Ok, Err, Result, sym, refl, ap, ◌∙◌, subst, arith}
 use Rattle.query.specs.Data.{Data, num, bag, Datas, none, more, how_many, once}
 use Rattle.query.specs.Query.{Op1, in_bag, flat, count, sum, distinct, Got, came, failed, adding, on_bag, apply1, flat_all, sum_all, word}
 use Rattle.values.specs.Memory.{Used, Holds, Kept, Readable}
 use Rattle.values.specs.Height.{height, height_all}
-use Rattle.values.specs.Making.{MadeAs, Makes, BagLies}
+use Rattle.values.specs.Making.{BagLies}
 use Rattle.values.specs.declared.value.Place.{Place}
 use Rattle.values.specs.declared.value.Value.{Value}
 use Rattle.values.specs.declared.value.Value.TheVariants.{Number}
 use Rattle.values.specs.declared.value.Made.{Made}
 use Rattle.values.proofs.Frame.{kept_refl}
-use Rattle.bags.specs.Things.{all_bags, joined_all}
-use Rattle.bags.specs.Bags.{ABag, PutsInBag, Sums, Counts, FlatIs, Flattens, TakesOnce}
+use Rattle.bags.specs.Things.{joined_all}
+use Rattle.bags.specs.Bags.{ABag, PutsInBag, Sums, Counts, Flattens, TakesOnce}
 use Rattle.bags.specs.declared.flat.Flattened.TheVariants as flattened
 use Rattle.bags.proofs.Things.{as_many, bag_readable}
 use Rattle.bags.proofs.Flattening.{flat_joins, flat_fails}

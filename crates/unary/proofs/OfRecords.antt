@@ -1,9 +1,9 @@
 -- What comes of records.
-use Rattle.std.proofs.Common.{◌≡◌, ℕ, ◌+◌, ◌-◌, ◌*◌, ◌<◌, ◌≤◌, List, [], ◌∷◌, length, Some, None, Ok, Err, Result, sym, refl, ap, ◌∙◌, subst, arith}
+use Rattle.std.proofs.Common.{◌≡◌, ℕ, ◌+◌, ◌*◌, ◌≤◌, List, [], ◌∷◌, length, Some, None, Ok, Err, Result, sym, refl, ap, ◌∙◌, subst, arith}
 use Rattle.query.specs.Data.{Name, Data, rec, Fields, no_field, field, get, left_out, only}
-use Rattle.query.specs.Query.{Op1, dot, as_field, without, project, Got, came, failed, adding, on_rec, apply1, get_or_fail}
-use Rattle.values.specs.Memory.{Used, Spelled, Holds, Kept}
-use Rattle.values.specs.Making.{MadeAs, Makes, RecordLies}
+use Rattle.query.specs.Query.{Op1, dot, as_field, without, project, Got, came, adding, on_rec, apply1, get_or_fail}
+use Rattle.values.specs.Memory.{Used, Spelled, Kept}
+use Rattle.values.specs.Making.{RecordLies}
 use Rattle.values.specs.declared.value.Place.{Place}
 use Rattle.values.specs.declared.value.Value.{Value}
 use Rattle.values.specs.declared.value.Made.{Made}
@@ -15,7 +15,7 @@ use Rattle.operators.specs.Kinds.{as_record}
 use Rattle.operators.specs.Means.{Means}
 use Rattle.operators.specs.declared.came.Came.{Came}
 use Rattle.operators.specs.declared.came.Stop.{Stop}
-use Rattle.operators.specs.declared.came.Stop.TheVariants.{Tired, NoRoom, Wrong}
+use Rattle.operators.specs.declared.came.Stop.TheVariants.{NoRoom, Wrong}
 use Rattle.operators.proofs.OfKind.{is_record, no_record}
 use Rattle.unary.specs.Unary.{Lies, PaysFor, TurnsByName, TurnsByNames}
 use Rattle.unary.proofs.Paying.{stopped_wrong, made_here, is_here, lacks_room}

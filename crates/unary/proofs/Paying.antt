@@ -1,5 +1,5 @@
 -- What was made or is at hand, paid for by what was looked at.
-use Rattle.std.proofs.Common.{◌≡◌, ℕ, ◌+◌, ◌-◌, ◌*◌, ◌<◌, ◌≤◌, List, [], ◌∷◌, length, sym, refl, ap, ◌∙◌, subst, mul_comm, arith}
+use Rattle.std.proofs.Common.{◌≡◌, ℕ, ◌+◌, ◌*◌, ◌<◌, ◌≤◌, List, [], ◌∷◌, length, subst, mul_comm, arith}
 use Rattle.query.specs.Data.{Data}
 use Rattle.query.specs.Query.{Got}
 use Rattle.values.specs.Memory.{Used, Holds}

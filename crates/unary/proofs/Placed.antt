@@ -1,24 +1,22 @@
 -- From an operator where it stands in its query to what comes of the value.
-use Rattle.std.proofs.Common.{◌≡◌, ℕ, suc, ◌+◌, ◌-◌, ◌*◌, ◌<◌, ◌≤◌, Bool, true, false, List, [], ◌∷◌, ◌++◌, length, take, drop, Result, sym, refl, ap, ◌∙◌, subst, arith, length-append, length-drop}
+use Rattle.std.proofs.Common.{◌≡◌, ℕ, suc, ◌+◌, ◌≤◌, true, List, [], ◌∷◌, ◌++◌, length, take, drop, Result, sym, refl, ap, ◌∙◌, subst, arith, length-append, length-drop}
 use mathlib.Core.Bool.{false≢true}
 use Rattle.std.proofs.lemmas.List.{drop-drop}
 use Rattle.query.specs.Data.{Name, Data, rec, Fields, no_field, field}
-use Rattle.query.specs.Query.{Op1, not_so, in_bag, flat, count, sum, distinct, dot, as_field, without, project, Ty, a_rec, Tys, Query, one, Got, adding, apply1}
+use Rattle.query.specs.Query.{Op1, not_so, in_bag, flat, count, sum, distinct, dot, as_field, without, project, Ty, a_rec, Tys, Query, one, adding, apply1}
 use Rattle.query.specs.Types.{sound, sounds, is_of, fields_of, fields_are, on_one, type1}
 use Rattle.query.proofs.TypeParts.{fields_out}
 use Rattle.query.proofs.Operators.{apply1_of}
 use Rattle.format.specs.Coding.{le, name, writes, AllFit}
 use Rattle.format.specs.Wire.{write_1, write_query, Fits1, FitsQuery}
-use Rattle.format.specs.Nodes.{IsOp1, Stands}
 use Rattle.format.specs.declared.node.Unary.{Unary}
 use Rattle.format.specs.declared.node.Unary.TheVariants as uo
 use Rattle.format.specs.Bytes.{length_le}
 use Rattle.guide.proofs.Standing.{dot_stands, as_field_stands, without_stands, names_stand}
-use Rattle.values.specs.Memory.{Used, Spelled}
-use Rattle.values.specs.Height.{height, height_ty}
-use Rattle.values.specs.declared.value.Place.{Place}
+use Rattle.values.specs.Memory.{Spelled}
+use Rattle.values.specs.Height.{height}
 use Rattle.values.specs.declared.value.Value.{Value}
-use Rattle.bounds.specs.Names.{width, width_ty, named, nameds}
+use Rattle.bounds.specs.Names.{width, named, nameds}
 use Rattle.bounds.proofs.Heights.{no_deeper}
 use Rattle.bounds.proofs.Widths.{as_wide, no_wider}
 use Rattle.records.specs.Parts.{how_many_fields}

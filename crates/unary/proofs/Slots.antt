@@ -1,15 +1,13 @@
 -- What is not so, and a value on one side.
-use Rattle.std.proofs.Common.{◌≡◌, ℕ, ◌+◌, ◌*◌, ◌<◌, ◌≤◌, Bool, true, false, not, List, [], ◌∷◌, length, Ok, Err, Result, sym, refl, ap, ◌∙◌, subst, arith}
+use Rattle.std.proofs.Common.{◌≡◌, ℕ, ◌+◌, ◌<◌, ◌≤◌, Bool, not, List, length, Ok, Err, sym, refl, subst, arith}
 use Rattle.query.specs.Data.{Data, truth, left, right}
-use Rattle.query.specs.Query.{Got, came, adding, not_so, on_truth, apply1}
-use Rattle.values.specs.Memory.{Used, Under, Run, Holds, Kept, Stored, loaded}
-use Rattle.values.specs.Making.{MadeAs}
+use Rattle.query.specs.Query.{came, adding, not_so, on_truth, apply1}
+use Rattle.values.specs.Memory.{Used, Under, Holds, Kept, Stored, loaded}
 use Rattle.values.specs.declared.value.Value.{Value}
 use Rattle.values.specs.declared.value.Value.TheVariants.{Truth, Left, Right}
 use Rattle.values.proofs.Frame.{kept_refl, kept_agree, stored_kept, holds_kept}
 use Rattle.operators.specs.Kinds.{as_truth}
 use Rattle.operators.specs.Means.{Means}
-use Rattle.operators.specs.declared.came.Came.{Came}
 use Rattle.operators.specs.declared.came.Stop.{Stop}
 use Rattle.operators.specs.declared.came.Stop.TheVariants.{NoRoom}
 use Rattle.operators.proofs.OfKind.{is_truth, no_truth}

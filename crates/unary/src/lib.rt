@@ -1,4 +1,6 @@
 // Operators on what one part of a query came to. The unit of work that the operator costs was paid before.
+#![tactic(auto)]
+
 ghost use Rattle.std.specs.Prelude.{◌++◌};
 ghost use Rattle.values.specs.Memory.{Space};
 ghost use Rattle.operators.specs.Ready.{OneReady, Ones};

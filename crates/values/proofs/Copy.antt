@@ -1,8 +1,8 @@
 -- Slots copied, and two bags in one.
-use Rattle.std.proofs.Common.{◌≡◌, ℕ, zero, suc, ◌+◌, ◌-◌, ◌*◌, ◌<◌, ◌≤◌, T, List, [], ◌∷◌, length, get_or, sym, refl, ap, ◌∙◌, subst, arith, below_more}
-use Rattle.query.specs.Data.{Data, bag, Datas, none, more, join, how_many}
-use Rattle.values.specs.Memory.{Kept, Stored, Used, Under, Grown, Holds, HoldsAll, loaded, Readable, Copied, Agree}
-use Rattle.values.proofs.Frame.{kept_refl, kept_agree, kept_trans, kept_less, stored_kept, slot_same, holds_kept, all_kept}
+use Rattle.std.proofs.Common.{◌≡◌, ℕ, suc, ◌+◌, ◌*◌, ◌<◌, ◌≤◌, List, sym, ap, ◌∙◌, subst, arith, below_more}
+use Rattle.query.specs.Data.{Datas, none, more, join}
+use Rattle.values.specs.Memory.{Stored, Used, Holds, HoldsAll, loaded, Readable, Copied, Agree}
+use Rattle.values.proofs.Frame.{kept_refl, kept_trans, stored_kept, slot_same, holds_kept}
 use Rattle.values.specs.declared.value.Place.{Place}
 use Rattle.values.specs.declared.value.Value.{Value}
 

@@ -1,7 +1,7 @@
 -- What stays where memory is written elsewhere.
-use Rattle.std.proofs.Common.{◌≡◌, ℕ, suc, ◌+◌, ◌*◌, ◌<◌, ◌≤◌, T, ◌≢◌, ◌⊎◌, List, [], ◌∷◌, length, get_or, set, sym, refl, ap, ◌∙◌, subst, inl, inr, arith, length-set}
+use Rattle.std.proofs.Common.{◌≡◌, ℕ, ◌+◌, ◌*◌, ◌<◌, ◌≤◌, T, List, get_or, sym, refl, ◌∙◌, subst, arith}
 use Rattle.query.specs.Data.{Data, unit, num, truth, text, bag, rec, left, right, Datas, none, more, Fields, no_field, field}
-use Rattle.values.specs.Memory.{decoded, loaded, Stored, Kept, Used, Under, Grown, Run, Spelled, Holds, HoldsAll, HoldsFields, Agree}
+use Rattle.values.specs.Memory.{loaded, Stored, Kept, Used, Under, Spelled, Holds, HoldsAll, HoldsFields, Agree}
 use Rattle.values.specs.declared.value.Value.{Value}
 
 pub kept_refl : {top : ℕ} {m : List ℕ} → Kept top m m

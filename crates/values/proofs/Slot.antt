@@ -1,11 +1,10 @@
 -- Slots written and read.
-use Rattle.std.proofs.Common.{◌≡◌, ℕ, suc, ◌+◌, ◌-◌, ◌*◌, ◌<◌, ◌≤◌, ◌≢◌, ◌⊎◌, List, ◌++◌, length, get_or, set, sym, refl, ap, ◌∙◌, subst, inl, inr, arith, length-append, length-set, get_or-set_other, get_or-set_same, get_or-append-add}
+use Rattle.std.proofs.Common.{◌≡◌, ℕ, ◌+◌, ◌-◌, ◌<◌, ◌≤◌, ◌≢◌, List, ◌++◌, length, get_or, set, sym, refl, ap, ◌∙◌, subst, arith, length-append, length-set, get_or-set_other, get_or-set_same, get_or-append-add}
 use native.Mathlib.Decide.{dec_lt}
 use lib.ListN.{get_or-append}
-use Rattle.values.specs.Memory.{decoded, loaded, loaded_field, Stored, StoredField, Kept}
+use Rattle.values.specs.Memory.{decoded, loaded, loaded_field, Stored, StoredField}
 use Rattle.values.specs.declared.value.Value.{Value}
 use Rattle.values.specs.declared.value.Field.{Field}
-use Rattle.values.specs.declared.value.Place.{Place}
 
 abbrev three : List ℕ → ℕ → ℕ → ℕ → ℕ → List ℕ
 three m at k x y = set (set (set m at k) (at + 1) x) (at + 2) y

@@ -1,9 +1,8 @@
 -- What it is to have made a value in free memory, or to lack the room for it.
-use Rattle.std.specs.Prelude.{◌≡◌, ℕ, ◌+◌, ◌*◌, ◌<◌, ◌≤◌, List, ◌++◌, length, Some, None, Option}
+use Rattle.std.specs.Prelude.{ℕ, ◌+◌, ◌*◌, ◌<◌, ◌≤◌, List, length, Some, None, Option}
 use Rattle.query.specs.Data.{Data, Datas, Fields}
-use Rattle.values.specs.Memory.{Used, Under, Grown, Run, Holds, HoldsAll, HoldsFields, Kept}
+use Rattle.values.specs.Memory.{Used, Under, Grown, Run, Holds, HoldsAll, HoldsFields}
 use Rattle.values.specs.declared.value.Place.{Place}
-use Rattle.values.specs.declared.value.Value.{Value}
 use Rattle.values.specs.declared.value.Made.{Made}
 
 -- a value that stands for d was made above old, in at most `need` words

@@ -1,4 +1,6 @@
 // The program: answers the requests of a file, a line for each.
+#![tactic(auto)]
+
 use serving::serve;
 use std::process::ExitCode;
 

@@ -1,5 +1,5 @@
 -- Numbers at the front of others, written one after another.
-use Rattle.std.proofs.Common.{◌≡◌, ℕ, zero, suc, ◌+◌, ◌-◌, ◌*◌, ◌/◌, ◌%◌, ◌<◌, ◌≤◌, List, [], ◌∷◌, ◌++◌, length, get_or, take, drop, set, Some, None, Option, sym, refl, ap, ◌∙◌, subst, ap₂, arith, length-append, length-drop, length-set, length-take-le, get_or-drop, take_at, take-add, drop_at}
+use Rattle.std.proofs.Common.{◌≡◌, ℕ, suc, ◌+◌, ◌-◌, ◌/◌, ◌%◌, ◌<◌, ◌≤◌, List, [], ◌∷◌, ◌++◌, length, get_or, take, drop, set, Some, None, sym, refl, ap, ◌∙◌, subst, ap₂, arith, length-append, length-drop, length-set, length-take-le, take_at, take-add, drop_at}
 use lib.Seq.{take-append-le}
 use borrow.Rule.Slice.PartMut.{put_mid}
 use Rattle.std.proofs.lemmas.List.{append_assoc, append-nil, take_more, take_more_set, take_rest, take_all}
@@ -7,7 +7,7 @@ use Rattle.format.specs.Coding.{le, name}
 use Rattle.format.specs.Bytes.{length_le}
 use Rattle.values.specs.Memory.{Spelled}
 use Rattle.values.specs.declared.value.Place.{Place}
-use Rattle.writing.specs.Puts.{BeginsWith, Put, Within, PutsName}
+use Rattle.writing.specs.Puts.{BeginsWith, PutsName}
 
 -- one byte more of a number
 pub number_more : (out : List ℕ) (i w n rest : ℕ) → i < w → w ≤ length out → take i out ++ le (w - i) rest ≡ le w n → take (i + 1) (set out i (rest % 256)) ++ le (w - (i + 1)) (rest / 256) ≡ le w n

@@ -1,16 +1,16 @@
 -- Data without parts, texts and the sides of an either, written out.
-use Rattle.std.proofs.Common.{◌≡◌, ℕ, zero, suc, ◌+◌, ◌-◌, ◌*◌, ◌<◌, ◌≤◌, Bool, List, [], ◌∷◌, ◌++◌, length, take, drop, Some, None, Option, sym, refl, ap, ◌∙◌, subst, arith}
+use Rattle.std.proofs.Common.{◌≡◌, ℕ, ◌+◌, ◌-◌, ◌<◌, Bool, List, [], ◌∷◌, length, take, drop, Some, None, Option, sym, ap, subst, arith}
 use borrow.Rule.Slice.PartMut.{put_mid}
-use Rattle.query.specs.Data.{Data, unit, num, truth, text, left, right}
+use Rattle.query.specs.Data.{Data, unit, num, truth}
 use Rattle.format.specs.Coding.{le, name}
 use Rattle.format.specs.Wire.{truth_tag, write_data}
-use Rattle.values.specs.Memory.{Used, Under, Run, Spelled, Holds, loaded}
+use Rattle.values.specs.Memory.{Used, Under, Holds, loaded}
 use Rattle.values.specs.declared.value.Place.{Place}
 use Rattle.values.specs.declared.value.Value.{Value}
 use Rattle.values.specs.declared.value.Value.TheVariants.{Nothing, Number, Truth, Text, Left, Right}
 use Rattle.writing.specs.Puts.{BeginsWith, Put, Within, PutsName}
 use Rattle.writing.specs.Writes.{Writes, WritesAny}
-use Rattle.writing.proofs.Fronts.{then_put, then_none, none_first}
+use Rattle.writing.proofs.Fronts.{then_put, then_none}
 use Rattle.writing.proofs.Views.{Held, held, in_reach}
 
 -- of a value that stands for one datum only

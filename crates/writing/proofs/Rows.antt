@@ -1,11 +1,11 @@
 -- Bags and records, written thing by thing: what holds on the way.
-use Rattle.std.proofs.Common.{◌≡◌, ℕ, zero, suc, ◌+◌, ◌-◌, ◌*◌, ◌<◌, ◌≤◌, List, [], ◌∷◌, ◌++◌, length, take, drop, Some, None, Option, sym, refl, ap, ◌∙◌, subst, arith, length-append, length-drop, length-take-le}
+use Rattle.std.proofs.Common.{◌≡◌, ℕ, ◌+◌, ◌-◌, ◌*◌, ◌<◌, ◌≤◌, List, [], ◌∷◌, ◌++◌, length, take, drop, Some, None, Option, sym, refl, ap, ◌∙◌, subst, arith, length-append, length-drop, length-take-le}
 use borrow.Rule.Slice.PartMut.{put_mid}
 use Rattle.std.proofs.lemmas.List.{append_assoc, append-nil, take_rest}
-use Rattle.query.specs.Data.{Data, bag, rec, Datas, Fields, how_many}
+use Rattle.query.specs.Data.{bag, rec, Datas, Fields}
 use Rattle.format.specs.Coding.{le, name, writes}
-use Rattle.format.specs.Wire.{names, write_names, write_data, write_datas, write_values}
-use Rattle.values.specs.Memory.{Used, Under, Run, Spelled, Holds, HoldsAll, HoldsFields, loaded, loaded_field}
+use Rattle.format.specs.Wire.{names, write_data, write_datas, write_values}
+use Rattle.values.specs.Memory.{Used, Under, Run, Holds, HoldsAll, HoldsFields, loaded, loaded_field}
 use Rattle.values.specs.declared.value.Place.{Place}
 use Rattle.values.specs.declared.value.Field.{Field}
 use Rattle.values.specs.declared.value.Value.{Value}
@@ -13,7 +13,7 @@ use Rattle.values.specs.declared.value.Value.TheVariants.{Bag, Record}
 use Rattle.writing.specs.Puts.{BeginsWith, Put, PutsName}
 use Rattle.writing.specs.Writes.{WritesAny, WritesNames}
 use Rattle.writing.proofs.Fronts.{then_put, then_none, none_first}
-use Rattle.writing.proofs.Views.{Held, held, many_things, many_fields, in_reach, next_slots, next_fields, First, first, nothing_left, FirstField, first_field, no_fields_left}
+use Rattle.writing.proofs.Views.{held, many_things, many_fields, in_reach, next_slots, next_fields, First, first, nothing_left, FirstField, first_field, no_fields_left}
 
 -- so much is written, and the rest of it is to come
 module _ (was now : List ℕ) (n : ℕ) (long : length now ≡ length was) (within : n ≤ length was) where

@@ -1,6 +1,6 @@
 -- Nine numbers a part are enough.
-use Rattle.std.proofs.Common.{◌≡◌, ℕ, zero, suc, ◌+◌, ◌*◌, ◌≤◌, List, [], ◌∷◌, ◌++◌, length, refl, ap, ◌∙◌, arith, length-append}
-use Rattle.query.specs.Data.{Name, Data, unit, num, truth, text, bag, rec, left, right, Datas, none, more, Fields, no_field, field, how_many}
+use Rattle.std.proofs.Common.{◌+◌, ◌*◌, ◌≤◌, length, arith, length-append}
+use Rattle.query.specs.Data.{Data, unit, num, truth, text, bag, rec, left, right, Datas, none, more, Fields, no_field, field, how_many}
 use Rattle.query.specs.Size.{size_d, size_ds, size_fs}
 use Rattle.format.specs.Coding.{le, name, writes}
 use Rattle.format.specs.Wire.{names, write_names, write_data, write_datas, write_values}

@@ -1,13 +1,10 @@
 -- What was loaded is written out as it was read.
-use Rattle.std.proofs.Common.{◌≡◌, ℕ, ◌<◌, ◌≤◌, List, ◌++◌, length, take, drop, Some, None, Option, sym, refl, ap, ◌∙◌, arith, take_at}
+use Rattle.std.proofs.Common.{◌≡◌, ℕ, List, ◌++◌, length, take, drop, Some, None, Option, sym, ap, ◌∙◌, arith, take_at}
 use Rattle.query.specs.Data.{Data}
 use Rattle.format.specs.Wire.{write_data}
 use Rattle.values.specs.Memory.{Under}
-use Rattle.loading.specs.Loads.{Ready, LiesInside, Loads}
-use Rattle.loading.specs.declared.loaded.Loaded.{Loaded}
 use Rattle.loading.proofs.Words.{under_grown}
 use Rattle.writing.specs.Puts.{Put}
-use Rattle.writing.specs.Writes.{Writes}
 use Rattle.writing.specs.Trip.{Back, RoundTrip}
 
 -- the datum's bytes are those that it was loaded from

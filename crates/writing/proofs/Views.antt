@@ -1,10 +1,9 @@
 -- What a value stands for, by its kind.
-use Rattle.std.proofs.Common.{◌≡◌, ℕ, zero, suc, ◌+◌, ◌-◌, ◌*◌, ◌<◌, ◌≤◌, T, List, [], ◌∷◌, ◌++◌, length, get_or, sym, refl, ap, ◌∙◌, subst, arith}
+use Rattle.std.proofs.Common.{◌≡◌, ℕ, suc, ◌+◌, ◌-◌, ◌*◌, ◌<◌, ◌≤◌, List, [], ◌++◌, length, get_or, sym, refl, ap, ◌∙◌, subst, arith}
 use Rattle.query.specs.Data.{Name, Data, unit, num, truth, text, bag, rec, left, right, Datas, none, more, Fields, no_field, field, how_many}
 use Rattle.format.specs.Coding.{name, writes}
 use Rattle.format.specs.Wire.{names, write_data, write_datas, write_values}
 use Rattle.values.specs.Memory.{Used, Under, Run, Spelled, Holds, HoldsAll, HoldsFields, loaded, loaded_field}
-use Rattle.values.specs.declared.value.Place.{Place}
 use Rattle.values.specs.declared.value.Field.{Field}
 use Rattle.values.specs.declared.value.Value.{Value}
 use Rattle.values.specs.declared.value.Value.TheVariants.{Nothing, Number, Truth, Text, Bag, Record, Left, Right}

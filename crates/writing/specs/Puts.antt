@@ -1,5 +1,5 @@
 -- What it is to have written numbers at the front of others, and to have read from memory.
-use Rattle.std.specs.Prelude.{◌≡◌, ℕ, ◌+◌, ◌<◌, ◌≤◌, List, ◌++◌, length, take, Some, None, Option}
+use Rattle.std.specs.Prelude.{◌≡◌, ℕ, ◌+◌, ◌<◌, ◌≤◌, List, length, take, Some, None, Option}
 use Rattle.format.specs.Coding.{name}
 use Rattle.values.specs.Memory.{Spelled, loaded, loaded_field}
 use Rattle.values.specs.declared.value.Place.{Place}

@@ -1,5 +1,5 @@
 -- What it is to have written out the datum that a value stands for.
-use Rattle.std.specs.Prelude.{◌≡◌, ℕ, ◌+◌, ◌*◌, ◌<◌, ◌≤◌, List, ◌++◌, length, take, Option}
+use Rattle.std.specs.Prelude.{ℕ, ◌*◌, List, length, Option}
 use Rattle.query.specs.Data.{Data, Fields}
 use Rattle.format.specs.Coding.{name, writes}
 use Rattle.format.specs.Wire.{names, write_data, FitsData}

@@ -1,4 +1,4 @@
-use Rattle.std.proofs.Common.{◌≡◌, arith}
+use Rattle.std.proofs.Common.{arith}
 use Rattle.format.specs.Coding.{many}
 use Rattle.format.specs.Wire.{types}
 use Rattle.checks.proofs.Places.{front}

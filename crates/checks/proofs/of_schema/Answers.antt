@@ -1,4 +1,3 @@
-use Rattle.std.proofs.Common.{◌≡◌, arith}
 use Rattle.format.specs.Coding.{many}
 use Rattle.format.specs.Wire.{types, data_of}
 use Rattle.checks.proofs.Places.{front}

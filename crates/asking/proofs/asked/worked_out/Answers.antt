@@ -1,4 +1,4 @@
-use Rattle.std.proofs.Common.{◌≡◌, ℕ, ◌+◌, ◌≤◌, ◌++◌, length, arith, length-append}
+use Rattle.std.proofs.Common.{◌++◌, arith, length-append}
 use Rattle.asking.proofs.Out.{out_of_came, out_of_stop}
 use Rattle.asking.proofs.asked.worked_out.Goals as goal
 

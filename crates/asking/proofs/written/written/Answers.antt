@@ -1,4 +1,4 @@
-use Rattle.std.proofs.Common.{refl, arith}
+use Rattle.std.proofs.Common.{refl}
 use Rattle.asking.proofs.Cut.{not_written, is_written}
 use Rattle.asking.proofs.written.written.Goals as goal
 

@@ -1,4 +1,4 @@
-use Rattle.std.proofs.Common.{◌≡◌, ℕ, List, length, sym, refl, ap, ◌∙◌, subst, arith, take_at, rules}
+use Rattle.std.proofs.Common.{ℕ, List, length, sym, ◌∙◌, subst, take_at, rules}
 use Rattle.query.specs.Promise.{thin}
 use Rattle.asking_desk.specs.Checked.{LetThrough}
 use Rattle.asking_desk.specs.Answered.{Answered}

@@ -1,9 +1,9 @@
-use Rattle.std.proofs.Common.{◌≡◌, ℕ, length, sym, refl, ap, ◌∙◌, subst, arith}
+use Rattle.std.proofs.Common.{◌≡◌, ℕ, sym, subst, arith}
 use Rattle.format.specs.Nodes.{Requested}
 use Rattle.format.specs.declared.node.Request.{Request}
 use Rattle.std.proofs.lemmas.Result.{MatchResult-at_err}
 use Rattle.asking_desk.specs.Checked.{RefusedBy}
-use Rattle.asking_desk.proofs.Requests.{IsToAsk, to_ask_is}
+use Rattle.asking_desk.proofs.Requests.{to_ask_is}
 use Rattle.asking_desk.proofs.Turning.{garbled_refused, plan_refused, too_large, out_of_order, no_type, other_tables}
 use Rattle.asking_desk.proofs.check.checked.Goals as goal
 

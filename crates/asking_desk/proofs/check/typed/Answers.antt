@@ -1,4 +1,4 @@
-use Rattle.std.proofs.Common.{◌≡◌, sym, arith}
+use Rattle.std.proofs.Common.{arith}
 use Rattle.std.proofs.lemmas.List.{take_rest}
 use Rattle.asking_desk.proofs.TypeTold.{guided, unguided, typed_so}
 use Rattle.asking_desk.proofs.check.typed.Goals as goal

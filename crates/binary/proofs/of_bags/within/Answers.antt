@@ -1,4 +1,4 @@
-use Rattle.std.proofs.Common.{sym, subst, arith, length-append}
+use Rattle.std.proofs.Common.{sym, arith, length-append}
 use Rattle.std.proofs.lemmas.Result.{err_from_is_err_and}
 use Rattle.binary.proofs.TwoBags.{within_wrong, within_readable, within_tired, within_came}
 use Rattle.binary.proofs.of_bags.within.Goals as goal

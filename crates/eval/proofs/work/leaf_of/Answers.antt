@@ -1,4 +1,4 @@
-use Rattle.std.proofs.Common.{sym, refl, subst, arith, length-append}
+use Rattle.std.proofs.Common.{arith, length-append}
 use Rattle.eval.proofs.Seen.{in_marks}
 use Rattle.eval.proofs.Leaves.{table_spot_at, table_holds, it_holds, env_holds, just_spot_at, just_holds}
 use Rattle.eval.proofs.work.leaf_of.Goals as goal

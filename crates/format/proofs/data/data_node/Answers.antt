@@ -1,5 +1,4 @@
-use Rattle.std.proofs.Common.{◌≡◌, true, false, refl, subst, arith}
-use Rattle.query.specs.Types.{bytes}
+use Rattle.std.proofs.Common.{true, false, refl, arith}
 use Rattle.format.specs.Heads.{data_arity}
 use Rattle.format.specs.declared.node.DataNode.TheVariants.{Nothing, Number, Truth, Text, Bag, Record, Left, Right}
 use Rattle.format.specs.Lists.{bytes_typed}

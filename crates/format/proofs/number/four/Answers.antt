@@ -1,4 +1,4 @@
-use Rattle.std.proofs.Common.{◌≡◌, ◌∙◌, arith}
+use Rattle.std.proofs.Common.{◌∙◌, arith}
 use Rattle.format.specs.Bytes.{four_of}
 use Rattle.format.specs.Lists.{take_four}
 use Rattle.format.proofs.number.four.Goals as goal

@@ -1,4 +1,4 @@
-use Rattle.std.proofs.Common.{◌≡◌, ℕ, ◌+◌, ◌*◌, List, ◌++◌, take, sym, ap, ◌∙◌, ap₂, arith, take-add}
+use Rattle.std.proofs.Common.{ℕ, List, ◌++◌, take, sym, ap, ◌∙◌, ap₂, arith, take-add}
 use Rattle.format.specs.Lists.{bytes_typed, from_drop}
 use Rattle.format.specs.Bytes.{le_then}
 use Rattle.format.specs.Codings.{number_stuck}

@@ -1,8 +1,8 @@
-use Rattle.std.proofs.Common.{◌≡◌, ℕ, [], ◌∷◌, sym, refl, ap, inl, inr, ⊎_elim, arith}
+use Rattle.std.proofs.Common.{ℕ, [], ◌∷◌, sym, refl, ap, inl, inr, ⊎_elim, arith}
 use Rattle.std.proofs.lemmas.Bool.{cases_lt}
 use Rattle.format.specs.Wire.{tag_2, write_1, Fits1}
 use Rattle.query.specs.Query.{equal, and, or, plus, less, join_bags, join_recs, within, not_so, in_bag, flat, count, sum, distinct}
-use Rattle.format.specs.Heads.{it_q, env_q, two_q, one_q, each_q, keep_q, product_q, default_q, either_q, then_q, with_env_q, write_query_head, FitsQueryHead, query_arity}
+use Rattle.format.specs.Heads.{two_q, one_q, write_query_head, FitsQueryHead, query_arity}
 use Rattle.format.proofs.queries.operator_node.Goals as goal
 
 pub returns-in_default : goal.returns-in_default

@@ -1,4 +1,4 @@
-use Rattle.std.proofs.Common.{◌+◌, arith}
+use Rattle.std.proofs.Common.{◌+◌}
 use Rattle.format.specs.Coding.{name}
 use Rattle.format.specs.Codings.{name_way}
 use Rattle.format.specs.Trees.{inhabited}

@@ -1,4 +1,3 @@
-use Rattle.std.proofs.Common.{◌+◌}
 use Rattle.format.specs.Wire.{types, data_of}
 use Rattle.format.specs.Heads.{data_heads, data_arity}
 use Rattle.format.specs.Lists.{from}

@@ -1,10 +1,8 @@
 use Rattle.std.proofs.Common.{◌+◌, refl, arith}
-use Rattle.format.specs.Coding.{number, many, counted, both_of}
+use Rattle.format.specs.Coding.{many, counted}
 use Rattle.format.specs.Wire.{types, data_of, queries}
-use Rattle.format.specs.Heads.{data_heads, data_arity, query_heads, query_arity}
 use Rattle.format.specs.Nodes.{ask_tail, ask_body}
 use Rattle.format.specs.Lists.{from}
-use Rattle.format.specs.Trees.{inhabited}
 use Rattle.format.specs.RequestLaws.{schema_way, tables_way, tail_some, body_some}
 use Rattle.format.proofs.Pairs.{pair_read, pair_cut, pair_short}
 use Rattle.format.proofs.Places.{counted_stands, stands_on}

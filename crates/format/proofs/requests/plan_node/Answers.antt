@@ -1,4 +1,4 @@
-use Rattle.std.proofs.Common.{◌+◌, refl, arith}
+use Rattle.std.proofs.Common.{arith}
 use Rattle.format.specs.Coding.{counted}
 use Rattle.format.specs.Wire.{types, queries}
 use Rattle.format.specs.Heads.{query_heads, query_arity}

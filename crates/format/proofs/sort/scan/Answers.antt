@@ -1,6 +1,6 @@
-use Rattle.std.proofs.Common.{◌≡◌, ℕ, ◌+◌, List, length, take, drop, sym, refl, subst, arith, length-drop}
-use Rattle.format.specs.Reading.{Opens, Opened, Unopened}
-use Rattle.format.specs.Lists.{from, from_drop}
+use Rattle.std.proofs.Common.{ℕ, List, refl, subst, arith, length-drop}
+use Rattle.format.specs.Reading.{Opened, Unopened}
+use Rattle.format.specs.Lists.{from_drop}
 use Rattle.format.proofs.Spans.{spans_none, spans_more, spans_all, spans_stuck}
 use Rattle.format.proofs.sort.scan.Goals as goal
 

@@ -1,4 +1,4 @@
-use Rattle.std.proofs.Common.{◌≡◌, refl, arith}
+use Rattle.std.proofs.Common.{refl, arith}
 use Rattle.format.specs.Heads.{ty_arity}
 use Rattle.format.specs.declared.node.TypeNode.TheVariants.{Nothing, Number, Truth, Text, Bag, Record, Either}
 use Rattle.format.specs.Lists.{bytes_typed}

@@ -1,4 +1,4 @@
-use Rattle.std.proofs.Common.{◌≡◌, ◌+◌, ◌<◌, ◌≤◌, length, sym, refl, ap, ◌∙◌, arith, length-append}
+use Rattle.std.proofs.Common.{◌≡◌, ◌≤◌, arith, length-append}
 use Rattle.values.proofs.Frame.{kept_refl, kept_trans, stored_kept}
 use Rattle.loading.specs.declared.loaded.Part.TheVariants as pt
 use Rattle.loading.proofs.Leaves as leaves

@@ -1,4 +1,3 @@
-use Rattle.std.proofs.Common.{arith}
 use Rattle.loading.proofs.Starts.{name_tells, name_within, no_name}
 use Rattle.loading.proofs.front.name_length.Goals as goal
 

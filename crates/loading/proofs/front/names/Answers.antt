@@ -1,4 +1,3 @@
-use Rattle.std.proofs.Common.{arith}
 use Rattle.loading.proofs.Starts.{names_tell, names_inside, other_type, no_names}
 use Rattle.loading.proofs.front.names.Goals as goal
 

@@ -1,4 +1,4 @@
-use Rattle.std.proofs.Common.{◌≡◌, ◌≤◌, length, arith, length-append}
+use Rattle.std.proofs.Common.{◌≡◌, ◌≤◌, arith, length-append}
 use Rattle.values.proofs.Frame.{kept_refl, kept_trans}
 use Rattle.loading.proofs.Tabled as tabled
 use Rattle.loading.proofs.tables.load_tables.Goals as goal

@@ -1,4 +1,4 @@
-use Rattle.std.proofs.Common.{◌≡◌, List, [], ◌∷◌, ◌++◌, length, sym, refl, ap, ◌∙◌, subst, ap₂, arith}
+use Rattle.std.proofs.Common.{List, [], ◌∷◌, ◌++◌, length, ap, ◌∙◌, arith}
 use Rattle.ranks.specs.Ranks.{nowhere}
 use Rattle.ranks.specs.declared.names.Place.{Place}
 use Rattle.ranks.proofs.Requests.{begin_listed, begin_there, begin_alone}

@@ -1,4 +1,4 @@
-use Rattle.std.proofs.Common.{◌≡◌, sym, refl, ap, ◌∙◌, subst, ap₂, arith}
+use Rattle.std.proofs.Common.{subst}
 use Rattle.format.specs.Nodes.{TellsType}
 use Rattle.format.specs.declared.node.TypeNode.{TypeNode}
 use Rattle.ranks.proofs.Gathers.{kept_none}

@@ -1,4 +1,4 @@
-use Rattle.std.proofs.Common.{◌≡◌, sym, refl, ap, ◌∙◌, subst, ap₂, arith}
+use Rattle.std.proofs.Common.{arith}
 use Rattle.ranks.proofs.QueryNames.{named_none, named_put}
 use Rattle.ranks.proofs.gather.named.Goals as goal
 

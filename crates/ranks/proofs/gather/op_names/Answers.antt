@@ -1,4 +1,4 @@
-use Rattle.std.proofs.Common.{◌≡◌, sym, refl, ap, ◌∙◌, subst, ap₂, arith}
+use Rattle.std.proofs.Common.{arith}
 use Rattle.ranks.proofs.Gathers.{kept_none}
 use Rattle.ranks.proofs.QueryNames.{op_plain, not_so_known, in_bag_known, flat_known, count_known, sum_known, distinct_known, dot_taken, as_field_taken, without_taken, only_taken, only_short}
 use Rattle.ranks.proofs.gather.op_names.Goals as goal

@@ -1,6 +1,5 @@
-use Rattle.std.proofs.Common.{◌≡◌, ◌+◌, ◌≤◌, sym, refl, ap, ◌∙◌, subst, ap₂, arith}
-use Rattle.ranks.specs.Known.{Kept}
-use Rattle.ranks.proofs.Gathers.{Naming, naming_begin, naming_lies, naming_on, naming_stuck, naming_end}
+use Rattle.std.proofs.Common.{arith}
+use Rattle.ranks.proofs.Gathers.{naming_begin, naming_lies, naming_on, naming_stuck, naming_end}
 use Rattle.ranks.proofs.gather.put_names.Goals as goal
 
 pub loop-i-init : goal.loop-i-init

@@ -1,4 +1,3 @@
-use Rattle.std.proofs.Common.{◌≡◌, sym, refl, ap, ◌∙◌, subst, ap₂, arith}
 use Rattle.ranks.proofs.Gathers.{kept_none, kept_two}
 use Rattle.ranks.proofs.QueryNames.{head_plain, just_taken, left_taken, right_taken, one_taken, matched_taken, TableKnown, TwoKnown, ItKnown, EnvKnown, EachKnown, KeepKnown, ProductKnown, DefaultKnown, EitherKnown, ThenKnown, WithEnvKnown}
 use Rattle.ranks.proofs.gather.query_head_names.Goals as goal

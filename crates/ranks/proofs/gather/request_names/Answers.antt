@@ -1,4 +1,3 @@
-use Rattle.std.proofs.Common.{◌≡◌, sym, refl, ap, ◌∙◌, subst, ap₂, arith}
 use Rattle.ranks.proofs.Requests.{gathered, no_schema, no_query}
 use Rattle.ranks.proofs.gather.request_names.Goals as goal
 

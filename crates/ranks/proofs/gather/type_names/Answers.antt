@@ -1,4 +1,4 @@
-use Rattle.std.proofs.Common.{◌≡◌, sym, refl, ap, ◌∙◌, subst, ap₂, arith}
+use Rattle.std.proofs.Common.{refl, arith}
 use Rattle.ranks.proofs.TypeNames.{going_begin, going_stuck, going_lies, going_on, going_end}
 use Rattle.ranks.proofs.gather.type_names.Goals as goal
 

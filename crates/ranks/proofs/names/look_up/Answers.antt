@@ -1,4 +1,4 @@
-use Rattle.std.proofs.Common.{◌≡◌, ◌<◌, true, length, sym, refl, ap, ◌∙◌, subst, ap₂, arith}
+use Rattle.std.proofs.Common.{sym, ap, ◌∙◌, arith}
 use Rattle.query.specs.Data.{less_text}
 use Rattle.ranks.proofs.Listings.{half_all, half_low, half_high, half_done, names_get, names_length}
 use Rattle.ranks.proofs.names.look_up.Goals as goal

@@ -1,6 +1,6 @@
-use Rattle.std.proofs.Common.{◌≡◌, ◌<◌, ◌≤◌, Bool, cond, List, length, get_or, take, drop, vec_items, vec_len, vec_capacity, sym, refl, ap, ◌∙◌, subst, ap₂, arith}
+use Rattle.std.proofs.Common.{◌<◌, Bool, cond, List, length, get_or, vec_items, vec_len, vec_capacity, sym, ap, ◌∙◌, subst, arith}
 use Rattle.std.specs.List.{insert}
-use Rattle.ranks.specs.Ranks.{PutAt, names_at, name_at, nowhere}
+use Rattle.ranks.specs.Ranks.{name_at, nowhere}
 use Rattle.ranks.specs.declared.names.Place.{Place}
 use Rattle.ranks.proofs.Listings.{put_none, put_full, put_in, there, part_same, put_at_part, names_length}
 use Rattle.ranks.proofs.names.put.Goals as goal

@@ -1,4 +1,4 @@
-use Rattle.std.proofs.Common.{◌≡◌, ◌<◌, ◌≤◌, List, length, get_or, vec_items, vec_len, sym, refl, ap, ◌∙◌, subst, ap₂, arith}
+use Rattle.std.proofs.Common.{◌<◌, List, length, get_or, vec_items, sym, ap, ◌∙◌, subst}
 use Rattle.ranks.specs.Ranks.{PutAt, names_at, name_at, nowhere}
 use Rattle.ranks.specs.declared.names.Place.{Place}
 use Rattle.ranks.proofs.Listings.{rank_some, absent}

@@ -1,4 +1,4 @@
-use Rattle.std.proofs.Common.{◌≡◌, Some, None, sym, refl, ap, ◌∙◌, arith}
+use Rattle.std.proofs.Common.{Some, None, ap, ◌∙◌}
 use Rattle.query.specs.Types.{type1}
 use Rattle.types.specs.Shapes.{type_at}
 use Rattle.types.specs.Outcomes.{look}

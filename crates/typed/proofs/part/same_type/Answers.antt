@@ -1,4 +1,4 @@
-use Rattle.std.proofs.Common.{◌≡◌, ℕ, Some, None, ap}
+use Rattle.std.proofs.Common.{ℕ, Some, None, ap}
 use Rattle.types.specs.Shapes.{type_at}
 use Rattle.types.specs.Outcomes.{look}
 use Rattle.types.proofs.Meanings.{stay, stays, differ}

@@ -1,4 +1,4 @@
-use Rattle.std.proofs.Common.{◌≡◌, refl, subst}
+use Rattle.std.proofs.Common.{refl, subst}
 use Rattle.guide.specs.Visits.{IsQuery}
 use Rattle.typed.specs.Shaped.{op1, where_same, on_left, on_right}
 use Rattle.typed.proofs.shape.shape_of.Goals as goal

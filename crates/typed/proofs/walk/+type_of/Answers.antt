@@ -1,4 +1,4 @@
-use Rattle.std.proofs.Common.{◌≡◌, Some, None, ◌∙◌, arith}
+use Rattle.std.proofs.Common.{None, ◌∙◌, arith}
 use Rattle.types.proofs.Meanings.{stay, still, grew_two, sides_none, sided}
 use Rattle.typed.proofs.Walking.{ready_on, no_depth, not_seen, leaf_walked, single_none, single_some, pair_none, pair_none_second, pair_some, over_none, over_no_bag, over_none_second, over_some, then_none, then_some, env_none, env_some, either_no_sides, either_none, either_none_second, either_some}
 use Rattle.typed.proofs.walk.+type_of.Goals as goal

@@ -1,6 +1,5 @@
-use Rattle.std.proofs.Common.{◌≡◌, ◌<◌, length, vec_items, sym, refl, ap, ◌∙◌, subst, ap₂, arith, rules, below_more}
+use Rattle.std.proofs.Common.{length, vec_items, sym, subst, arith, below_more}
 use Rattle.types.specs.Tables.{Lies}
-use Rattle.types.specs.Shapes.{shape}
 use Rattle.types.proofs.intern.find.Goals as goal
 
 pub same_entry-requires : goal.same_entry-requires

@@ -1,4 +1,4 @@
-use Rattle.std.proofs.Common.{◌≡◌, ℕ, ◌+◌, ◌<◌, get_or, vec_items}
+use Rattle.std.proofs.Common.{◌≡◌, ℕ, ◌<◌, get_or, vec_items}
 use Rattle.types.specs.Shapes.{shape}
 use Rattle.types.specs.declared.entry.Entry.TheVariants.{Unit as Unit'}
 use Rattle.types.proofs.intern.find.Given as goal

@@ -1,4 +1,4 @@
-use Rattle.std.proofs.Common.{◌≡◌, sym, refl, ap, ◌∙◌, subst, ap₂, zero-le, arith}
+use Rattle.std.proofs.Common.{refl, arith}
 use Rattle.types.proofs.Makes.{made_old, made_push, lies_more}
 use Rattle.types.proofs.intern.plain.Goals as goal
 

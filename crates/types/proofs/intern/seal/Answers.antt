@@ -1,4 +1,4 @@
-use Rattle.std.proofs.Common.{◌≡◌, ◌-◌, sym, refl, ap, ◌∙◌, subst, ap₂, arith}
+use Rattle.std.proofs.Common.{◌-◌, refl, arith}
 use Rattle.types.proofs.Makes.{sealed_cut, sealed_push, sound_wide}
 use Rattle.types.proofs.intern.seal.Goals as goal
 

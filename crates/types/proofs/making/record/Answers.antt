@@ -1,4 +1,4 @@
-use Rattle.std.proofs.Common.{◌≡◌, ◌+◌, ◌<◌, ◌≤◌, List, [], ◌∷◌, ◌++◌, length, Some, None, vec_items, vec_len, vec_capacity, sym, refl, ap, ◌∙◌, subst, ap₂, arith}
+use Rattle.std.proofs.Common.{◌≡◌, ◌+◌, ◌≤◌, length, None, vec_items, vec_len, vec_capacity, refl, ap, ◌∙◌, arith}
 use Rattle.types.specs.Fields.{zip_f}
 use Rattle.types.specs.Tables.{Kept}
 use Rattle.types.proofs.Operators.{if_no}

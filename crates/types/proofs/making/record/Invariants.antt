@@ -1,4 +1,4 @@
-use Rattle.std.proofs.Common.{◌≡◌, ◌++◌, length, drop, vec_items, vec_capacity}
+use Rattle.std.proofs.Common.{◌≡◌, ◌++◌, drop, vec_items, vec_capacity}
 use Rattle.types.specs.Fields.{zip_f}
 use Rattle.types.proofs.making.record.Given as goal
 

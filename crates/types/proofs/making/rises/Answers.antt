@@ -1,4 +1,4 @@
-use Rattle.std.proofs.Common.{◌≡◌, ◌+◌, ◌<◌, ◌≤◌, List, [], ◌∷◌, ◌++◌, sym, refl, ap, ◌∙◌, subst, ap₂, arith}
+use Rattle.std.proofs.Common.{refl, arith}
 use Rattle.types.proofs.Makings.{rise_on, rise_off, rise_end}
 use Rattle.types.proofs.making.rises.Goals as goal
 

@@ -1,4 +1,4 @@
-use Rattle.std.proofs.Common.{◌≡◌, sym, refl, ap, ◌∙◌, subst, ap₂, arith}
+use Rattle.std.proofs.Common.{ap, ◌∙◌}
 use Rattle.types.specs.Tables.{bag_part}
 use Rattle.types.proofs.Meanings.{elem_grew, elem_says}
 use Rattle.types.proofs.part.elem_of.Goals as goal

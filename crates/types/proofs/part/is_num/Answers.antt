@@ -1,4 +1,4 @@
-use Rattle.std.proofs.Common.{◌≡◌, sym, refl, ap, ◌∙◌, subst, ap₂, arith}
+use Rattle.std.proofs.Common.{ap, ◌∙◌}
 use Rattle.types.specs.Tables.{num_part}
 use Rattle.types.proofs.Meanings.{num_says}
 use Rattle.types.proofs.part.is_num.Goals as goal

@@ -1,4 +1,4 @@
-use Rattle.std.proofs.Common.{◌≡◌, sym, refl, ap, ◌∙◌, subst, ap₂, arith}
+use Rattle.std.proofs.Common.{ap, ◌∙◌}
 use Rattle.types.specs.Tables.{truth_part}
 use Rattle.types.proofs.Meanings.{truth_says}
 use Rattle.types.proofs.part.is_truth.Goals as goal

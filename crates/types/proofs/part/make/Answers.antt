@@ -1,4 +1,4 @@
-use Rattle.std.proofs.Common.{◌≡◌, Some, None, sym, refl, ap, ◌∙◌, subst, ap₂, arith}
+use Rattle.std.proofs.Common.{None, refl}
 use Rattle.types.proofs.Meanings.{stay, no_room, made_grew, made_says}
 use Rattle.types.proofs.part.make.Goals as goal
 

@@ -1,6 +1,6 @@
-use Rattle.std.proofs.Common.{◌≡◌, ◌+◌, ◌<◌, ◌≤◌, length, take, drop, vec_items, vec_len, vec_capacity, sym, refl, ap, ◌∙◌, subst, ap₂, arith}
+use Rattle.std.proofs.Common.{◌≡◌, ◌+◌, ◌≤◌, length, vec_items, vec_len, vec_capacity, refl, ap, ◌∙◌, arith}
 use Rattle.types.proofs.Both.{both_rises}
-use Rattle.types.proofs.Tops.{Merging, merge_begin, merge_first, merge_rises, merge_rising, merge_counts, merge_room, merge_on, merge_end, top_start, top_sound, top_rises, top_made, rising_as, sound_as, made_as, top_wide}
+use Rattle.types.proofs.Tops.{merge_begin, merge_first, merge_rises, merge_rising, merge_counts, merge_room, merge_on, merge_end, top_start, top_sound, top_rises, top_made, rising_as, sound_as, made_as, top_wide}
 use Rattle.types.proofs.record.both.Goals as goal
 use Rattle.types.proofs.record.both.Goals.{then-n-gt0, else-n-gt0+then-m-gt0}
 

@@ -1,4 +1,4 @@
-use Rattle.std.proofs.Common.{◌≡◌, ◌+◌, length, take, drop, vec_items, vec_len, vec_capacity}
+use Rattle.std.proofs.Common.{◌≡◌, ◌+◌, length, take, drop, vec_items, vec_capacity}
 use Rattle.types.proofs.Tops.{Merging}
 use Rattle.types.proofs.record.both.Given as goal
 

@@ -1,4 +1,4 @@
-use Rattle.std.proofs.Common.{◌≡◌, sym, refl, ap, ◌∙◌, subst, ap₂, arith}
+use Rattle.std.proofs.Common.{arith}
 use Rattle.types.proofs.Gets.{got, get_on, get_none}
 use Rattle.types.proofs.record.get.Goals as goal
 

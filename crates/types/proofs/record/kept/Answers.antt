@@ -1,4 +1,4 @@
-use Rattle.std.proofs.Common.{◌≡◌, ◌+◌, ◌≤◌, length, vec_items, vec_len, vec_capacity, sym, refl, ap, ◌∙◌, subst, ap₂, arith}
+use Rattle.std.proofs.Common.{◌≡◌, ◌+◌, ◌≤◌, length, vec_items, vec_len, vec_capacity, sym, refl, ap, ◌∙◌, subst, arith}
 use Rattle.types.specs.declared.table.Table.{Table}
 use Rattle.types.proofs.Keeps.{Keeping, keep_begin, keep_lies, keep_off, keep_room, keep_on, keep_end, kept_rises}
 use Rattle.types.proofs.Tops.{top_start, top_sound, top_rises, top_made, top_wide, rising_as, sound_as, made_as}

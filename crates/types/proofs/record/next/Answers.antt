@@ -1,5 +1,5 @@
-use Rattle.std.proofs.Common.{◌≡◌, List, ◌∷◌, take, drop, sym, refl, ap, ◌∙◌, subst, ap₂, arith}
-use Rattle.types.proofs.Runs.{run_cons, run_none, run_cons_at}
+use Rattle.std.proofs.Common.{arith}
+use Rattle.types.proofs.Runs.{run_none, run_cons_at}
 use Rattle.types.proofs.Both.{stepped_first, stepped_second, stepped_less, stepped_more, stepped_same}
 use Rattle.types.proofs.record.next.Goals as goal
 

@@ -1,4 +1,4 @@
-use Rattle.std.proofs.Common.{◌≡◌, length, vec_items, sym, refl, ap, ◌∙◌, subst, ap₂, arith}
+use Rattle.std.proofs.Common.{◌≡◌, length, vec_items, ◌∙◌, arith}
 use Rattle.types.proofs.Tops.{top_start, top_sound, top_rises, top_made, one_rises}
 use Rattle.types.proofs.record.single.Goals as goal
 

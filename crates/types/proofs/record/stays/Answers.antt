@@ -1,4 +1,4 @@
-use Rattle.std.proofs.Common.{◌≡◌, Bool, not, sym, refl, ap, ◌∙◌, ap₂}
+use Rattle.std.proofs.Common.{Bool, not, sym, ap, ◌∙◌}
 use Rattle.types.specs.Fields.{as_told, in_f}
 use Rattle.types.proofs.record.stays.Goals as goal
 

@@ -1,5 +1,4 @@
-use Rattle.std.proofs.Common.{◌≡◌, ℕ, ◌≤◌, List, [], ◌∷◌, ◌++◌, length, drop, Some, None, vec_items, vec_len, vec_capacity, sym, refl, ap, ◌∙◌, subst, ap₂, arith, rules}
-use Rattle.types.specs.Operators.{NamesOf}
+use Rattle.std.proofs.Common.{ℕ, ◌≤◌, List, length, drop, Some, None, vec_items, refl, ap, ◌∙◌, arith, rules}
 use Rattle.typing.specs.Loads.{Fit}
 use Rattle.typing.proofs.Loading.{making_none, making_begin, making_lies, making_stuck, making_unmade, making_full, making_on, making_end, stack_as}
 use Rattle.format.specs.Lists.{none_of}

@@ -1,4 +1,4 @@
-use Rattle.std.proofs.Common.{◌≤◌, vec_items, vec_len, vec_capacity}
+use Rattle.std.proofs.Common.{vec_items, vec_len}
 use Rattle.typing.specs.Loads.{Fit}
 use Rattle.typing.proofs.Loading.{Making}
 use Rattle.typing.proofs.load.load.Given as goal

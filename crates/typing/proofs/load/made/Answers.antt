@@ -1,10 +1,7 @@
-use Rattle.std.proofs.Common.{◌≡◌, length, take, drop, Some, None, sym, refl, ap, ◌∙◌, subst, ap₂, arith}
-use Rattle.format.specs.declared.node.TypeNode.{TypeNode}
+use Rattle.std.proofs.Common.{None, arith}
 use Rattle.types.specs.Shapes.{Below, meaning}
-use Rattle.types.specs.Operators.{NamesOf}
 use Rattle.types.proofs.Meanings.{stay, ranked_as}
-use Rattle.typing.specs.Loads.{TypeMade}
-use Rattle.typing.proofs.TypeMade.{ranked, first_below, second_below, names_take, unit_made, num_made, truth_made, text_made, bag_made, either_made, bag_short, either_short, rec_short, rec_unknown, rec_few, rec_made, node_as}
+use Rattle.typing.proofs.TypeMade.{ranked, first_below, second_below, unit_made, num_made, truth_made, text_made, bag_made, either_made, bag_short, either_short, node_as}
 use Rattle.typing.proofs.load.made.Goals as goal
 
 pub make-requires : goal.make-requires

@@ -1,11 +1,7 @@
-use Rattle.std.proofs.Common.{◌≡◌, ℕ, List, length, take, drop, Some, None, sym, refl, ap, ◌∙◌, subst, ap₂, arith}
-use Rattle.format.specs.declared.node.TypeNode.{TypeNode}
+use Rattle.std.proofs.Common.{ℕ, List, length, drop, None, sym, refl, ap, ◌∙◌}
 use Rattle.format.specs.declared.node.TypeNode.TheVariants as tn
-use Rattle.types.specs.Shapes.{Below, meaning}
-use Rattle.types.specs.Operators.{NamesOf}
 use Rattle.types.proofs.Meanings.{stay, ranked_as}
-use Rattle.typing.specs.Loads.{TypeMade}
-use Rattle.typing.proofs.TypeMade.{ranked, first_below, second_below, names_take, unit_made, num_made, truth_made, text_made, bag_made, either_made, bag_short, either_short, rec_short, rec_unknown, rec_few, rec_made, rec_as, part_long, names_as}
+use Rattle.typing.proofs.TypeMade.{ranked, names_take, rec_short, rec_unknown, rec_few, rec_made, rec_as, part_long, names_as}
 use Rattle.typing.proofs.load.made_record.Goals as goal
 
 pub returns-then-bytes-at-lt5 : goal.returns-then-bytes-at-lt5

@@ -1,4 +1,4 @@
-use Rattle.std.proofs.Common.{◌≡◌, sym, refl, ap, ◌∙◌, subst, ap₂, arith}
+use Rattle.std.proofs.Common.{refl, arith}
 use Rattle.typing.proofs.HeadNotes.{noting_begin, noting_stuck, noting_full, noting_lies, noting_on, noting_end}
 use Rattle.typing.proofs.load.note_heads.Goals as goal
 

@@ -1,5 +1,5 @@
-use Rattle.std.proofs.Common.{◌≡◌, ◌⊎◌, sym, refl, ap, ◌∙◌, subst, ap₂, inl, inr, arith}
-use Rattle.typing.proofs.Loading.{placed, placed_none}
+use Rattle.std.proofs.Common.{arith}
+use Rattle.typing.proofs.Loading.{placed}
 use Rattle.typing.proofs.load.put_on.Goals as goal
 
 pub returns : goal.returns

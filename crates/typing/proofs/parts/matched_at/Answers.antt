@@ -1,4 +1,4 @@
-use Rattle.std.proofs.Common.{◌≡◌, Some, None, sym, refl, ap, ◌∙◌, subst, ap₂, arith}
+use Rattle.std.proofs.Common.{None, arith}
 use Rattle.types.proofs.Meanings.{stay, ranked_as}
 use Rattle.typing.proofs.TypeMade.{ranked}
 use Rattle.typing.proofs.DatumTold.{no_first, no_place, no_second, both_names}

@@ -1,4 +1,4 @@
-use Rattle.std.proofs.Common.{◌≡◌, sym, refl, ap, ◌∙◌, subst, ap₂, arith}
+use Rattle.std.proofs.Common.{arith}
 use Rattle.typing.proofs.Written.{name_short, name_ranked}
 use Rattle.typing.proofs.parts.name_at.Goals as goal
 

@@ -1,4 +1,4 @@
-use Rattle.std.proofs.Common.{◌≡◌, ℕ, ◌<◌, List, length, get_or, drop, Some, None, vec_items, sym, refl, ap, ◌∙◌, subst, ap₂, arith}
+use Rattle.std.proofs.Common.{◌≡◌, ℕ, ◌<◌, List, length, get_or, Some, None, vec_items, sym, ap, ◌∙◌, subst, arith}
 use Rattle.types.specs.Outcomes.{size}
 use Rattle.typing.specs.Typed.{TypeTold}
 use Rattle.types.proofs.Meanings.{stay, grew_at}

@@ -1,4 +1,4 @@
-use Rattle.std.proofs.Common.{◌≡◌, Some, None, sym, refl, ap, ◌∙◌, subst, ap₂, arith}
+use Rattle.std.proofs.Common.{None, arith}
 use Rattle.types.proofs.Meanings.{stay, ranked_as, meant_more}
 use Rattle.typing.proofs.TypeMade.{ranked, names_as}
 use Rattle.typing.proofs.UnaryTold.{dot_none, dot_some, as_field_none, as_field_some, without_none, without_some, only_short, only_unknown, only_some, not_so_plain, not_so_told, in_bag_plain, in_bag_told, flat_plain, flat_told, count_plain, count_told, sum_plain, sum_told, distinct_plain, distinct_told}

@@ -1,4 +1,4 @@
-use Rattle.std.proofs.Common.{◌≡◌, Some, None, sym, refl, ap, ◌∙◌, subst, ap₂, arith}
+use Rattle.std.proofs.Common.{None}
 use Rattle.types.proofs.Meanings.{grew_at}
 use Rattle.typing.proofs.DatumTold.{datum_none, datum_not, datum_some}
 use Rattle.typing.proofs.parts.written.Goals as goal

@@ -1,4 +1,4 @@
-use Rattle.std.proofs.Common.{◌≡◌, ◌+◌, List, sym, refl, ap, ◌∙◌, subst, ap₂, arith}
+use Rattle.std.proofs.Common.{◌+◌, sym, ◌∙◌, subst, arith}
 use Rattle.ranks.specs.Ranks.{In, names_of}
 use Rattle.ranks.proofs.Listings.{part_same}
 use Rattle.typing.proofs.RankReads.{ranking_begin, ranking_stuck, ranking_full, ranking_lies, ranking_absent, ranking_on, ranking_end}

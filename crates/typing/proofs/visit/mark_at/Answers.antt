@@ -1,4 +1,4 @@
-use Rattle.std.proofs.Common.{◌≡◌, sym, refl, ap, ◌∙◌, subst, ap₂, arith}
+use Rattle.std.proofs.Common.{sym}
 use Rattle.typing.proofs.Seeing.{past}
 use Rattle.typing.proofs.visit.mark_at.Goals as goal
 

@@ -1,4 +1,4 @@
-use Rattle.std.proofs.Common.{◌≡◌, sym, refl, ap, ◌∙◌, subst, ap₂, arith}
+use Rattle.std.proofs.Common.{arith}
 use Rattle.typing.proofs.Seeing.{seen_off, seen_none, seen_some}
 use Rattle.typing.proofs.visit.visit_at.Goals as goal
 

@@ -1,4 +1,4 @@
-use Rattle.std.proofs.Common.{◌≡◌, ◌<◌, sym, mod-eq_of_lt, arith}
+use Rattle.std.proofs.Common.{◌<◌, sym, mod-eq_of_lt, arith}
 use Rattle.std.proofs.lemmas.Result.{err_from_is_err_and}
 use Rattle.unary.proofs.OfBags.{count_no_bag, count_tired, count_turns}
 use Rattle.unary.proofs.of_bags.counted.Goals as goal

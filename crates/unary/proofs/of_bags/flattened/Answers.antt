@@ -1,4 +1,4 @@
-use Rattle.std.proofs.Common.{◌≡◌, ◌++◌, sym, arith, length-append}
+use Rattle.std.proofs.Common.{◌++◌, sym, arith, length-append}
 use Rattle.std.proofs.lemmas.Result.{err_from_is_err_and}
 use Rattle.bags.proofs.Things.{readable_more}
 use Rattle.unary.proofs.OfBags.{bag_there, bag_reads, flat_no_bag, flat_tired, flat_no_bags, flat_too_many, flat_turns, flat_short, flat_wrong}

@@ -1,4 +1,4 @@
-use Rattle.std.proofs.Common.{◌≡◌, ◌++◌, sym, arith, length-append}
+use Rattle.std.proofs.Common.{◌++◌, sym, arith, length-append}
 use Rattle.std.proofs.lemmas.Result.{err_from_is_err_and}
 use Rattle.unary.proofs.OfBags.{bag_reads, once_no_bag, once_tired, once_turns, once_short}
 use Rattle.unary.proofs.of_bags.once.Goals as goal

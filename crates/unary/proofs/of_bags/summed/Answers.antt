@@ -1,4 +1,4 @@
-use Rattle.std.proofs.Common.{◌≡◌, ◌++◌, sym, arith, length-append}
+use Rattle.std.proofs.Common.{◌++◌, sym, arith, length-append}
 use Rattle.std.proofs.lemmas.Result.{err_from_is_err_and}
 use Rattle.bags.proofs.Things.{readable_more}
 use Rattle.unary.proofs.OfBags.{bag_reads, sum_no_bag, sum_tired, sum_turns, sum_wrong}

@@ -1,4 +1,4 @@
-use Rattle.std.proofs.Common.{◌≡◌, ◌++◌, sym, arith, length-append}
+use Rattle.std.proofs.Common.{◌++◌, sym, arith, length-append}
 use Rattle.std.proofs.lemmas.Result.{err_from_is_err_and}
 use Rattle.records.proofs.Fields.{below_more}
 use Rattle.unary.proofs.OfRecords.{record_reads, dot_no_record, dot_turns, dot_wrong}

@@ -1,4 +1,4 @@
-use Rattle.std.proofs.Common.{◌≡◌, ◌++◌, sym, arith, length-append}
+use Rattle.std.proofs.Common.{◌++◌, sym, arith, length-append}
 use Rattle.std.proofs.lemmas.Result.{err_from_is_err_and}
 use Rattle.unary.proofs.OfRecords.{record_reads, without_no_record, without_turns, without_short}
 use Rattle.unary.proofs.of_records.left_out.Goals as goal

@@ -1,4 +1,4 @@
-use Rattle.std.proofs.Common.{◌≡◌, sym}
+use Rattle.std.proofs.Common.{sym}
 use Rattle.std.proofs.lemmas.Result.{err_from_is_err_and}
 use Rattle.unary.proofs.Slots.{no_truth_turns, not_turns}
 use Rattle.unary.proofs.plain.negated.Goals as goal

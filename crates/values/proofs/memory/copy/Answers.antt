@@ -1,4 +1,4 @@
-use Rattle.std.proofs.Common.{◌≡◌, ◌+◌, ◌*◌, ◌≤◌, ◌++◌, subst, arith}
+use Rattle.std.proofs.Common.{◌≡◌, ◌++◌, subst, arith}
 use Rattle.values.specs.Memory.{Copied}
 use Rattle.values.proofs.Copy.{copied_none, copied_more}
 use Rattle.values.proofs.memory.copy.Goals as goal

@@ -1,4 +1,4 @@
-use Rattle.std.proofs.Common.{◌≡◌, refl}
+use Rattle.std.proofs.Common.{refl}
 use Rattle.values.specs.Memory.{loaded_field}
 use Rattle.values.proofs.memory.load_field.Goals as goal
 

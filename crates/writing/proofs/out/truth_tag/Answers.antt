@@ -1,4 +1,4 @@
-use Rattle.std.proofs.Common.{◌≡◌, sym, refl, ap, ◌∙◌}
+use Rattle.std.proofs.Common.{sym, ap}
 use Rattle.format.specs.Wire.{truth_tag}
 use Rattle.writing.proofs.out.truth_tag.Goals as goal
 

@@ -1,4 +1,4 @@
-use Rattle.std.proofs.Common.{◌≡◌, refl, arith, length-append}
+use Rattle.std.proofs.Common.{arith, length-append}
 use Rattle.writing.proofs.Fronts.{part_long}
 use Rattle.writing.proofs.Rows as rows
 use Rattle.writing.proofs.out.write_names.Goals as goal

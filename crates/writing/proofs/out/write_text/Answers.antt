@@ -1,4 +1,3 @@
-use Rattle.std.proofs.Common.{arith}
 use Rattle.writing.proofs.Fronts.{part_within}
 use Rattle.writing.proofs.Plains as plains
 use Rattle.writing.proofs.out.write_text.Goals as goal

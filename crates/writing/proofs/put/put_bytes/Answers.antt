@@ -1,4 +1,4 @@
-use Rattle.std.proofs.Common.{◌≡◌, refl, arith}
+use Rattle.std.proofs.Common.{refl, arith}
 use Rattle.writing.proofs.Fronts.{copy_more, copy_all}
 use Rattle.writing.proofs.put.put_bytes.Goals as goal
 

@@ -1,4 +1,4 @@
-use Rattle.std.proofs.Common.{◌≡◌, refl, arith}
+use Rattle.std.proofs.Common.{refl, arith}
 use Rattle.writing.proofs.Fronts.{name_no_room, name_put}
 use Rattle.writing.proofs.put.put_name.Goals as goal
 

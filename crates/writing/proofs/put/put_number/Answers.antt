@@ -1,4 +1,4 @@
-use Rattle.std.proofs.Common.{◌≡◌, ◌-◌, refl, ap, arith}
+use Rattle.std.proofs.Common.{◌≡◌, ◌-◌, ap, arith}
 use Rattle.format.specs.Coding.{le}
 use Rattle.writing.proofs.Fronts.{number_more, number_all}
 use Rattle.writing.proofs.put.put_number.Goals as goal

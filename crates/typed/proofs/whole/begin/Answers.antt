@@ -1,8 +1,8 @@
-use Rattle.std.proofs.Common.{◌≡◌, List, [], ◌∷◌, ◌++◌, refl, ap, ◌∙◌, arith}
+use Rattle.std.proofs.Common.{List, [], ◌∷◌, ◌++◌, refl, ap, ◌∙◌, arith}
 use Rattle.types.specs.declared.entry.Entry.{Entry}
 use Rattle.types.specs.declared.entry.Entry.TheVariants.{Unit as Unit'}
 use Rattle.typed.proofs.Asking.{begun}
-use Rattle.typed.proofs.query.begin.Goals as goal
+use Rattle.typed.proofs.whole.begin.Goals as goal
 
 pub returns : goal.returns
 returns c =

@@ -1,7 +1,7 @@
-use Rattle.std.proofs.Common.{◌≡◌, ℕ, List, ◌++◌, length, drop, vec_items, ap, arith}
+use Rattle.std.proofs.Common.{ℕ, List, ◌++◌, length, drop, vec_items, ap, arith}
 use Rattle.std.proofs.lemmas.List.{length-append, length-drop}
 use Rattle.typed.proofs.Asking.{copied_on, copied_end}
-use Rattle.typed.proofs.query.copy.Goals as goal
+use Rattle.typed.proofs.whole.copy.Goals as goal
 
 pub loop-i-init : goal.loop-i-init
 loop-i-init c = (

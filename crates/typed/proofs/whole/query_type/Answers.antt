@@ -1,8 +1,8 @@
-use Rattle.std.proofs.Common.{◌≡◌, ℕ, List, drop, sym, ap, ◌∙◌, subst}
+use Rattle.std.proofs.Common.{ℕ, List, drop, sym, ap, ◌∙◌, subst}
 use Rattle.types.specs.Operators.{NamesOf}
 use Rattle.types.specs.Outcomes.{size}
 use Rattle.typed.proofs.Asking.{counted, schema_unsound, query_told, some_there}
-use Rattle.typed.proofs.query.query_type.Goals as goal
+use Rattle.typed.proofs.whole.query_type.Goals as goal
 
 pub load-requires : goal.load-requires
 load-requires c = record {
