@@ -40,12 +40,13 @@ def spelled(name):
     if name in BY_HAND:
         return BY_HAND[name]
     if name[:1].isupper():
-        return "".join(it[:1].upper() + it[1:] for it in name.split("-"))
+        return "".join(it[:1].upper() + it[1:] for it in re.split("[-_]", name))
     return name.replace("-", "_")
 
 
 def turns(name):
-    return "-" in name and re.fullmatch(r"[A-Za-z][\w'-]*\w'*", name) is not None
+    # a type that the kit's script has spelled as a word turns too
+    return re.fullmatch(r"[A-Za-z][\w'-]*-[\w'-]*\w'*|[A-Z]\w*_\w+", name) is not None
 
 
 def files(root):
