@@ -1,8 +1,8 @@
 #!/bin/sh
 # Tries the built program where a call or a file is off: what it prints, what it says on standard error, and its status.
-# Usage: tests/program.sh, after the program is built (rt check vozketil).
+# Usage: tests/program.sh, after the program is built (rt run in crates/vozketil, or ./vozketil FILE).
 here=$(cd "$(dirname "$0")/.." && pwd) || exit 1
-program=$here/target/bin/vozketil
+program=$here/crates/vozketil/out/vozketil
 [ -x "$program" ] || { echo "program.sh: $program is not built" >&2; exit 1; }
 room=$(mktemp -d) || exit 1
 trap 'rm -rf "$room"' EXIT
