@@ -1,5 +1,5 @@
 #!/usr/bin/env python3
-"""The figures of docs/NUMBERS.md: bench/run.py, after `rt check vozketil`. Wants python3 and Debian's sqlite3; takes about two minutes on an idle machine.
+"""The figures of docs/NUMBERS.md: bench/run.py, after `rt run` in crates/asking_program. Wants python3 and Debian's sqlite3; takes about two minutes on an idle machine.
 A pass is what one more repetition of the query within a request adds, so that reading and loading are not in it. Times are processor seconds."""
 import os
 import subprocess
@@ -8,7 +8,7 @@ import tempfile
 import time
 
 HERE = os.path.dirname(os.path.abspath(__file__))
-PROGRAM = os.path.join(HERE, "..", "target", "bin", "vozketil")
+PROGRAM = os.path.join(HERE, "..", "crates", "asking_program", "out", "asking_program")
 
 
 def made(*words):

@@ -5,7 +5,7 @@ use Rattle.query.specs.Query.{Ty, Query, Tables, Got, came, eval, each_of, keep_
 use Rattle.query.specs.Types.{is_of, all_of, Schema, type_of, tables_are}
 use Rattle.query.specs.Size.{size_q, all_sound}
 use Rattle.format.specs.Wire.{write_query, FitsQuery}
-use Rattle.format.specs.Heads.{as_datas}
+pub use Rattle.format.specs.Heads.{as_datas}
 use Rattle.values.specs.Memory.{Used, Under, Run, Holds, HoldsAll}
 use Rattle.values.specs.declared.value.Place.{Place}
 use Rattle.values.specs.declared.value.Value.{Value}
