@@ -3,7 +3,7 @@
 ghost use Rattle.std.specs.Prelude.{suc};
 ghost use Rattle.query.specs.Size.{size_1, size_q};
 ghost use Rattle.format.specs.Coding.{many};
-ghost use Rattle.format.specs.Wire.{queries as all-queries};
+ghost use Rattle.format.specs.Wire.{queries as all_queries};
 ghost use Rattle.format.specs.Heads.{query_heads};
 ghost use Rattle.format.specs.Nodes.{IsOp1, TellsQuery};
 ghost use Rattle.parts.specs.Counts.{total, CountedInFront};
@@ -91,7 +91,7 @@ fn own_parts(bytes: &[u8], node: QueryNode, limit: usize) -> Option<usize>
 // The parts and the bytes of the query in front, or nothing if it has more parts than the limit.
 #[cycle(query_parts_several_parts)]
 pub fn query_parts(bytes: &[u8], limit: usize) -> Option<Counted>
-    ensures { CountedInFront all-queries size_q limit bytes.now result }
+    ensures { CountedInFront all_queries size_q limit bytes.now result }
 {
     if limit == 0 {
         return None;
@@ -113,7 +113,7 @@ pub fn query_parts(bytes: &[u8], limit: usize) -> Option<Counted>
 // The parts and the bytes of `count` queries, one after the other: what an operator is of.
 #[cycle(query_parts_several_parts)]
 fn several_parts(bytes: &[u8], count: usize, limit: usize) -> Option<Counted>
-    ensures { CountedInFront (many all-queries count) (total size_q) limit bytes.now result }
+    ensures { CountedInFront (many all_queries count) (total size_q) limit bytes.now result }
 {
     let mut parts: usize = 0;
     let mut end: usize = 0;
