@@ -1,12 +1,13 @@
 -- Parts of a buffer: what is unread, before and after more of the file has come.
-use Rattle.std.proofs.Common.{◌≡◌, ℕ, ◌+◌, ◌-◌, ◌≤◌, true, List, [], ◌++◌, length, take, drop, sym, refl, ap, ◌∙◌, append_assoc, append-nil, arith, length-append, length-drop, length-take-le, take-add}
+use Rattle.std.proofs.Common.{◌≡◌, ℕ, ◌+◌, ◌-◌, ◌≤◌, true, List, [], ◌++◌, length, take, drop, sym, refl, ap, ◌∙◌, append_assoc, append-nil, arith, length-append, length-drop, length-take-le, take-add, Result, Ok, Err, MatchResult}
 use lib.Seq.{paste}
+use Rattle.std.specs.Result.{IsOk}
 use Rattle.std.specs.List.{between}
 use Rattle.std.proofs.lemmas.List.{drop-drop, take-append-le, take_all, take_at}
 use Rattle.std.proofs.lemmas.Slice.{between_is}
 use Rattle.query.specs.Types.{bytes}
 use Rattle.format.specs.Coding.{le, number}
-use Rattle.format.specs.Reading.{Stuck}
+use Rattle.format.specs.Reading.{Begins, Stuck}
 use Rattle.format.specs.Lists.{none_of, split_at, bytes_take}
 use Rattle.format.specs.Bytes.{length_le, pad}
 use Rattle.serving.specs.declared.header.Header.{Header}
@@ -53,6 +54,15 @@ no_number xs p b h s =
     let none : q.rest ≡ [] = none_of q.rest (omega arith) in
     let is : take 4 xs ≡ le 4 q.n = sym (append-nil (take 4 xs)) ∙ ap (λ (v : List ℕ). take 4 xs ++ v) (sym none) ∙ q.is in
     s.absent q.n (drop 4 xs) q.fits (split_at 4 xs (le 4 q.n) is)
+
+-- what reading a number of four bytes says
+abbrev pub NumberOrStuck : List ℕ → Result ℕ ℕ → Type 0
+NumberOrStuck xs r = MatchResult r (λ n. Begins (number 4) xs 4 n) (λ p. Stuck (number 4) xs p)
+
+-- so where four bytes are there, a number is read
+pub number_there : (xs : List ℕ) → bytes xs ≡ true → 4 ≤ length xs → (r : Result ℕ ℕ) → NumberOrStuck xs r → IsOk r
+number_there xs b h (Ok n) m = refl
+number_there xs b h (Err p) m = absurd (no_number xs p b h m)
 
 -- what stands in front of the part that is written stays
 pub front_kept : (e n : ℕ) (xs ys zs ws : List ℕ) → ys ≡ xs → e ≤ n → e ≤ length xs → take e (take n ((take e ys ++ zs) ++ ws)) ≡ take e xs

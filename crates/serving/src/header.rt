@@ -1,5 +1,5 @@
 // What stands in front of a request in a file.
-ghost use Rattle.std.specs.Prelude.{◌<◌, length, MatchOption};
+ghost use Rattle.std.specs.Prelude.{◌≤◌, length};
 ghost use Rattle.serving.specs.Buffers.{HeaderOf};
 
 use format::number::read_u32;
@@ -12,18 +12,12 @@ pub struct Header {
     pub numbers: usize,
 }
 
-// The header that stands in front of the bytes, if they are enough.
-pub fn read_header(bytes: &[u8]) -> Option<Header>
-    ensures { MatchOption result (length bytes.now < 8) (λ h. HeaderOf bytes.now h) }
+// The header that stands in front of the bytes.
+pub fn read_header(bytes: &[u8]) -> Header
+    requires { 8 ≤ length bytes.now }
+    ensures { HeaderOf bytes.now result }
 {
-    if bytes.len() < 8 {
-        return None;
-    }
-    let Ok(count) = read_u32(bytes) else {
-        return None;
-    };
-    let Ok(numbers) = read_u32(&bytes[4..]) else {
-        return None;
-    };
-    Some(Header { count, numbers })
+    let count = read_u32(bytes).unwrap();
+    let numbers = read_u32(&bytes[4..]).unwrap();
+    Header { count, numbers }
 }

@@ -81,9 +81,7 @@ impl Requests {
             return Err(Fault::BreaksOff(self.total));
         }
         let (start, end) = (self.from, self.end);
-        let Some(header) = read_header(&self.buffer.as_slice()[start..end]) else {
-            return Err(Fault::BreaksOff(self.total));
-        };
+        let header = read_header(&self.buffer.as_slice()[start..end]);
         // The header stays in front of the request.
         if !self.hold(8 + header.count)? {
             return Err(Fault::BreaksOff(self.total));

@@ -17,7 +17,7 @@ fn truth_tag(b: bool) -> u64
     if b { 3 } else { 2 }
 }
 
-// WritesAny the datum that a value stands for, and says in how many numbers; nothing where there is no room for it.
+// Writes the datum that a value stands for, and says in how many numbers; nothing where there is no room for it.
 #[cycle(write_bag_write_left_write_out_write_record_write_right)]
 pub fn write_out(
     bytes: &[u8],

@@ -1,17 +1,16 @@
 use Rattle.std.proofs.Common.{ℕ, List, drop, subst, arith, length-drop}
-use Rattle.format.specs.Coding.{number}
-use Rattle.format.specs.Reading.{Stuck}
 use Rattle.format.specs.Lists.{bytes_typed, bytes_drop, from_drop}
-use Rattle.serving.proofs.Unread.{no_number}
+use Rattle.serving.proofs.Unread.{NumberOrStuck, number_there}
 use Rattle.serving.proofs.header.read_header.Goals as goal
 
-pub returns-in_default : goal.returns-in_default
-returns-in_default c =
+pub unwrap-count-requires : goal.unwrap-count-requires
+unwrap-count-requires c =
     let xs = c.args.bytes.now in
-    absurd (no_number xs c.in_default.field-0 (bytes_typed xs c.type_inv.bytes) (omega arith) c.in_default.ensures)
+    number_there xs (bytes_typed xs c.type_inv.bytes) (omega (arith, c.requires)) c.read_u32.result c.read_u32.ensures
 
-pub returns-in_default-read_u32 : goal.returns-in_default-read_u32
-returns-in_default-read_u32 c =
+pub unwrap-numbers-requires : goal.unwrap-numbers-requires
+unwrap-numbers-requires c =
     let xs = c.args.bytes.now in
-    let p = c.in_default-read_u32.field-0 in
-    absurd (no_number (drop 4 xs) p (bytes_drop 4 xs (bytes_typed xs c.type_inv.bytes)) (omega (arith, length-drop 4 xs)) (subst (λ (v : List ℕ). Stuck (number 4) v p) (from_drop 4 xs) c.in_default-read_u32.ensures))
+    let r = c.read_u32-2.result in
+    number_there (drop 4 xs) (bytes_drop 4 xs (bytes_typed xs c.type_inv.bytes)) (omega (arith, c.requires, length-drop 4 xs)) r
+    (subst (λ (v : List ℕ). NumberOrStuck v r) (from_drop 4 xs) c.read_u32-2.ensures)

@@ -14,8 +14,8 @@ returns c =
     let s = c.hold.new.self in
     let t = c.hold-2.new.self in
     let ys = vec_items t.buffer in
-    let h = c.in-Some.header in
-    let held : HeaderOf (between s.from s.end (vec_items s.buffer)) h = subst (λ (v : List ℕ). HeaderOf (between s.from s.end v) h) c.as_slice.ensures.value c.in-Some.ensures in
+    let h = c.read_header-header.result in
+    let held : HeaderOf (between s.from s.end (vec_items s.buffer)) h = subst (λ (v : List ℕ). HeaderOf (between s.from s.end v) h) c.as_slice.ensures.value c.read_header-header.ensures in
     let head : HeaderOf (between s.to s.end (vec_items s.buffer)) h = subst (λ (i : ℕ). HeaderOf (between i s.end (vec_items s.buffer)) h) c.in_ok-hold.ensures.same held in
     let two : Longer (between s.to s.end (vec_items s.buffer)) (between t.from t.end ys) =
     subst (λ (i : ℕ). Longer (between s.to s.end (vec_items s.buffer)) (between i t.end ys)) (sym c.in_ok-hold-2.ensures.same) c.in_ok-hold-2.ensures.more in
