@@ -1,21 +1,18 @@
 // Tests of what is proved, by running it: a thousand requests from a generator, typed queries over random schemas and requests that are off in one way
-// or another; the tables of these, loaded and written out again; and requests that are hard for one reason or another: nested millions deep, counts
-// and lengths that promise more than comes, types and data that would be vast as trees, no memory lent. The hard ones are made here, since most would
-// be too large to keep; one that takes two seconds or more is said to be late. What is written is compared with the right lines.
+// or another; and requests that are hard for one reason or another: nested millions deep, counts and lengths that promise more than comes, types and
+// data that would be vast as trees, no memory lent. The hard ones are made here, since most would be too large to keep; one that takes two seconds or
+// more is said to be late. What is written is compared with the right lines.
 #![tactic(auto)]
 
 mod bench;
 mod deep;
-mod reload;
 mod shared;
 mod short;
-mod trip;
 mod write;
 
 use asking_serving::serve;
 use bench::Bench;
 use deep::{deep_data, deep_queries};
-use reload::reload;
 use serving::fault::Fault;
 use shared::{shared_parts, vast};
 use short::{broken_off, nothing_lent};
@@ -23,7 +20,6 @@ use std::process::ExitCode;
 
 fn run(rt: &HostRuntime) -> Result<(), Fault> {
     serve(rt)?;
-    reload(rt)?;
     let mut bench = Bench::new(rt.alloc())?;
     deep_queries(rt, &mut bench)?;
     deep_data(rt, &mut bench)?;
