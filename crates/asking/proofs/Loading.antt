@@ -14,8 +14,7 @@ use Rattle.guide.proofs.Sizes.{query_bytes}
 use Rattle.values.specs.Memory.{Used, Under, Kept}
 use Rattle.values.proofs.Frame.{kept_agree}
 use Rattle.loading.specs.Loads.{TablesReady, TablesLoaded, LoadsTables}
-use Rattle.literals.specs.Literals.{Brings, Brought, Ready}
-use Rattle.literals.specs.declared.load.Literals.{Literals}
+use Rattle.literals.specs.Literals.{Literals, Brings, Brought, Ready}
 use Rattle.literals.proofs.Typed.{justs_typed}
 use Rattle.operators.proofs.Grows.{under_grown}
 use Rattle.eval.proofs.Frames.{row_kept}

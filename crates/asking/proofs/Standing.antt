@@ -1,5 +1,5 @@
 -- A request that has passed, with what was loaded for it, is ready to be worked out; and what an outcome then tells.
-use Rattle.std.proofs.Common.{◌≡◌, ℕ, ◌+◌, ◌*◌, ◌≤◌, true, List, [], ◌∷◌, ◌++◌, length, drop, sym, refl, ap, ◌∙◌, arith}
+use Rattle.std.proofs.Common.{◌≡◌, ℕ, ◌+◌, ◌*◌, ◌≤◌, true, List, [], ◌∷◌, ◌++◌, length, drop, Ok, Err, Result, sym, refl, ap, ◌∙◌, arith}
 use Rattle.query.specs.Data.{unit, same_text}
 use Rattle.query.specs.Query.{a_unit, asked}
 use Rattle.query.specs.Types.{Schema, sound, is_of, code}
@@ -14,9 +14,10 @@ use Rattle.values.specs.declared.value.Value.TheVariants.{Nothing}
 use Rattle.bounds.specs.Names.{named, schema_names, query_names, schema_height}
 use Rattle.bounds.proofs.TypeHeights.{flat_type}
 use Rattle.bounds.proofs.Widths.{few_names}
-use Rattle.literals.specs.declared.load.Literals.{Literals}
+use Rattle.literals.specs.Literals.{Literals}
 use Rattle.operators.specs.Means.{Comes}
 use Rattle.operators.specs.Ready.{Fine}
+use Rattle.operators.specs.declared.came.Stop.{Stop}
 use Rattle.operators.specs.declared.came.Stop.TheVariants.{Tired, NoRoom, Wrong}
 use Rattle.eval.specs.Ready.{Setting, setting, World, Stands, Typed, Held, Ready}
 use Rattle.eval.specs.declared.scene.Scene.{Scene}
@@ -24,7 +25,6 @@ use Rattle.asking.specs.Passed.{Passed, LoadedUp}
 use Rattle.asking.specs.Outcomes.{OutOf}
 use Rattle.asking.specs.Asked.{Told}
 use Rattle.asking.specs.declared.outcome.Outcome.{Outcome}
-use Rattle.asking.specs.declared.outcome.Outcome.TheVariants.{Is, Stopped}
 use Rattle.asking.proofs.Bound.{enough}
 
 -- a schema's types nest no deeper than it has parts
@@ -122,9 +122,9 @@ module _ (xs g : List ℕ) (a : Ask) (p : Passed xs g a) where
         let z : ◌≡◌ {A = ℕ} 0 1 = (let y : c.0 ∷ [] ≡ [] = sym c.1 ∙ e in cc) in
         omega arith
 
-    pub told_of : (w : ℕ) (r : Outcome) → OutOf ready_of.world.rate (asked p.tables p.query) w l.top (length m) r → Told p.schema p.tables p.query w (length m) r
-    told_of w (Is ws looked) o = o
-    told_of w (Stopped Tired) o = o it_comes
-    told_of w (Stopped NoRoom) o =
+    pub told_of : (w : ℕ) (r : Result Outcome Stop) → OutOf ready_of.world.rate (asked p.tables p.query) w l.top (length m) r → Told p.schema p.tables p.query w (length m) r
+    told_of w (Ok r) o = o
+    told_of w (Err Tired) o = o it_comes
+    told_of w (Err NoRoom) o =
         enough p.schema p.tables p.query w ready_of.world.rate (length (schema_names p.schema ++ query_names p.query)) l.top (length m) refl (few_names p.schema p.query).0 u.thrifty (o it_comes)
-    told_of w (Stopped Wrong) o = absurd (it_comes o)
+    told_of w (Err Wrong) o = absurd (it_comes o)

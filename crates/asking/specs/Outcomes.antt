@@ -1,5 +1,5 @@
 -- What an outcome says of what a query comes to.
-use Rattle.std.specs.Prelude.{◌≡◌, ℕ, ◌+◌, ◌*◌, ◌<◌, ◌≤◌, List, [], ◌∷◌, length}
+use Rattle.std.specs.Prelude.{◌≡◌, ℕ, ◌+◌, ◌*◌, ◌<◌, ◌≤◌, List, [], ◌∷◌, length, Ok, Err, Result}
 use Rattle.query.specs.Data.{Data}
 use Rattle.query.specs.Query.{Got, eval}
 use Rattle.query.specs.Promise.{size_out}
@@ -7,21 +7,21 @@ use Rattle.format.specs.Wire.{write_data}
 use Rattle.values.specs.Memory.{Used, Under, Holds}
 use Rattle.values.specs.declared.value.Value.TheVariants.{Nothing}
 use Rattle.operators.specs.Means.{Comes}
-use Rattle.operators.specs.declared.came.Came.{Came}
+use Rattle.operators.specs.Came.{Came}
+use Rattle.operators.specs.declared.came.Stop.{Stop}
 use Rattle.operators.specs.declared.came.Stop.TheVariants.{Tired, NoRoom, Wrong}
 use Rattle.eval.specs.Ready.{Setting, Ready}
 use Rattle.asking.specs.declared.outcome.Outcome.{Outcome}
-use Rattle.asking.specs.declared.outcome.Outcome.TheVariants.{Is, Stopped}
 
 -- A datum was written, and what is not left of the budget was looked at; or memory ends before the datum's bytes do.
-abbrev pub PutsOut : ℕ → Came → ℕ → Data → Outcome → Type 0
-PutsOut end c budget d (Is ws looked) = (ws.now ≡ write_data d) × (looked + c.left ≡ budget)
-PutsOut end c budget d (Stopped Tired) = ⊥
-PutsOut end c budget d (Stopped NoRoom) = end < c.top + length (write_data d)
-PutsOut end c budget d (Stopped Wrong) = ⊥
+abbrev pub PutsOut : ℕ → Came → ℕ → Data → Result Outcome Stop → Type 0
+PutsOut end c budget d (Ok o) = (o.words.now ≡ write_data d) × (o.looked + c.left ≡ budget)
+PutsOut end c budget d (Err Tired) = ⊥
+PutsOut end c budget d (Err NoRoom) = end < c.top + length (write_data d)
+PutsOut end c budget d (Err Wrong) = ⊥
 
 -- whatever datum the value stands for
-pub record WrittenOut (bs m : List ℕ) (c : Came) (budget : ℕ) (r : Outcome) : Type 0 where
+pub record WrittenOut (bs m : List ℕ) (c : Came) (budget : ℕ) (r : Result Outcome Stop) : Type 0 where
   pub means : (d : Data) (u : Used) → Holds bs m u d c.value → Under u c.top → PutsOut (length m) c budget d r
 
 -- what came is written out, and was looked at within the budget
@@ -39,12 +39,12 @@ pub record Lacking (rate : ℕ) (g : Got) (budget old end : ℕ) : Type 0 where
   pub afford : spent ≤ budget
   pub lacks : end < old + (rate * spent + 9 * size_out g.is)
 
-abbrev pub OutOf : ℕ → Got → ℕ → ℕ → ℕ → Outcome → Type 0
-OutOf rate g budget old end (Is ws looked) = CameOut g budget ws.now looked
-OutOf rate g budget old end (Stopped Tired) = Comes g → budget < g.work
-OutOf rate g budget old end (Stopped NoRoom) = Comes g → Lacking rate g budget old end
-OutOf rate g budget old end (Stopped Wrong) = g.is ≡ []
+abbrev pub OutOf : ℕ → Got → ℕ → ℕ → ℕ → Result Outcome Stop → Type 0
+OutOf rate g budget old end (Ok o) = CameOut g budget o.words.now o.looked
+OutOf rate g budget old end (Err Tired) = Comes g → budget < g.work
+OutOf rate g budget old end (Err NoRoom) = Comes g → Lacking rate g budget old end
+OutOf rate g budget old end (Err Wrong) = g.is ≡ []
 
 -- whichever query is ready to be worked out
-pub record WorksOut (S : Setting) (qs : List ℕ) (m : List ℕ) (top budget : ℕ) (r : Outcome) : Type 0 where
+pub record WorksOut (S : Setting) (qs : List ℕ) (m : List ℕ) (top budget : ℕ) (r : Result Outcome Stop) : Type 0 where
   pub means : (g : Ready S qs 0 Nothing Nothing m top) → OutOf g.world.rate (eval g.world.tables g.query g.along g.looked) budget top (length m) r

@@ -10,7 +10,7 @@ use Rattle.checks.specs.Checks.{SchemaAt, QueryAt, TablesAt}
 use Rattle.guide.specs.Guide.{Guided}
 use Rattle.values.specs.Memory.{Used, Under}
 use Rattle.literals.specs.Numbered.{Numbered}
-use Rattle.literals.specs.declared.load.Literals.{Literals}
+use Rattle.literals.specs.Literals.{Literals}
 use Rattle.eval.specs.Ready.{Row}
 
 -- schema, tables and query that the bytes have where the request says, within the limit and typed, with a guide to the query

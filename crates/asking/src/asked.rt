@@ -1,8 +1,10 @@
 // A request to ask that has passed its checks is answered in lent memory.
-ghost use Rattle.std.specs.Prelude.{◌≡◌, ℕ, ◌+◌, ◌≤◌, ◌++◌, length, drop};
-ghost use Rattle.values.specs.Memory.{Space};
+ghost use Rattle.std.specs.Prelude.{◌≡◌, ℕ, ◌+◌, ◌≤◌, length, drop};
+ghost use Rattle.values.specs.Lent.{all};
 ghost use Rattle.values.specs.declared.value.Value.TheVariants as vs;
-ghost use Rattle.eval.specs.Ready.{setting, Ready};
+ghost use Rattle.literals.specs.Literals.{brought};
+ghost use Rattle.eval.specs.Ready.{Ready};
+ghost use Rattle.eval.specs.Set.{set};
 ghost use Rattle.asking.specs.Outcomes.{WorksOut};
 ghost use Rattle.asking.specs.Passed.{Passed, LoadsUp};
 ghost use Rattle.asking.specs.Asked.{Tells};
@@ -12,68 +14,65 @@ use crate::written::written;
 use eval::scene::{Lent, Scene};
 use eval::work::work_out;
 use format::node::Ask;
-use literals::load::{Literals, load_literals};
+use literals::load::load_literals;
+use loading::loaded::Spot;
 use loading::tables::load_tables;
 use operators::came::Stop;
+use values::lent::Memory;
 use values::value::Value;
 
 // Data nest no deeper than that: the schema's types nest no deeper than it has parts, and a query adds two for each of its own.
 const DEEP: usize = 24576;
 
-// Works the query out and writes what it comes to.
-fn worked_out<'a, 'x>(
-    scene: Scene,
-    bytes: &'x [u8],
-    guide: &'x [u32],
-    marks: &'x [u32],
-    base: &'x [u64],
+// Where the types of the schema stand in a request to ask: after its tag and their count.
+pub const TYPES_AT: usize = 5;
+
+// Works the query out in the memory, and writes what it comes to into the rest of it.
+fn worked_out<'a>(
+    lent: &Lent,
     query: &[u8],
-    mem: &'a mut [u64],
-    top: usize,
+    memory: Memory<'a>,
     budget: u64,
-) -> Outcome<'a>
-    requires space { Space base.now mem.old top }
-    requires ready { Ready (setting scene bytes.now guide.now marks.now) query.now 0 vs.Nothing vs.Nothing (base.now ++ mem.old) top }
-    ensures { WorksOut (setting scene bytes.now guide.now marks.now) query.now (base.now ++ mem.old) top budget result }
+) -> Result<Outcome<'a>, Stop>
+    requires { Ready (set lent.now) query.now 0 vs.Nothing vs.Nothing (all memory) memory.top }
+    ensures { WorksOut (set lent.now) query.now (all memory.entry) memory.entry.top budget result }
 {
-    let lent = Lent {
-        bytes,
-        guide,
-        literals: marks,
-        base,
-    };
-    match work_out(
-        scene,
+    let mut memory = memory;
+    let came = work_out(
         lent,
         query,
         0,
         Value::Nothing,
         Value::Nothing,
-        mem,
-        top,
+        &mut memory,
         budget,
-    ) {
-        Ok(came) => written(bytes, base, mem, came, budget),
-        Err(stop) => Outcome::Stopped(stop),
-    }
+    )?;
+    written(lent.bytes, memory, came, budget)
 }
 
-// Loads the tables, and after them what the query writes out.
+// Loads the tables, and after them what the query writes out: returns where the slots of that begin.
 fn load_all(
     bytes: &[u8],
     ask: Ask,
     query: &[u8],
     guide: &[u32],
     marks: &mut [u32],
-    lent: &mut [u64],
-) -> Option<Literals>
+    memory: &mut Memory,
+) -> Option<usize>
     requires passed { Passed bytes.now guide.now ask }
     requires query { drop ask.query_at bytes.now ≡ query.now }
     requires marks { 73728 ≤ length marks.old }
-    ensures { LoadsUp bytes.now guide.now ask marks.new lent.new result }
+    ensures frozen { memory.new.kept.now ≡ memory.old.kept.now }
+    ensures long { length (all memory.new) ≡ length (all memory.old) }
+    ensures means { memory.old.top ≡ 0 → LoadsUp bytes.now guide.now ask marks.new (all memory.new) (brought memory.new.top result) }
 {
-    let top = load_tables(bytes, ask.tables_at, 5, ask.tables, &[], lent, 0)?;
-    load_literals(bytes, ask.query_at, query, guide, marks, &[], lent, top)
+    let spot = Spot {
+        bytes,
+        at: ask.tables_at,
+        ty: TYPES_AT,
+    };
+    load_tables(spot, ask.tables, memory)?;
+    load_literals(bytes, ask.query_at, query, guide, marks, memory)
 }
 
 // What is loaded lies in one part of the lent memory and is only read from then on; what is made is written into the other.
@@ -83,33 +82,33 @@ pub fn ask_of<'a>(
     guide: &[u32],
     marks: &mut [u32],
     lent: &'a mut [u64],
-) -> Outcome<'a>
+) -> Result<Outcome<'a>, Stop>
     requires passed { Passed bytes.now guide.now ask }
     requires marks { 73728 ≤ length marks.old }
     ensures { Tells bytes.now guide.now ask (length lent.old) result }
 {
     let from = ask.query_at;
     let query = &bytes[from..];
-    let Some(literals) = load_all(bytes, ask, query, guide, marks, lent) else {
-        return Outcome::Stopped(Stop::NoRoom);
+    let mut memory = Memory {
+        kept: &[],
+        made: lent,
+        top: 0,
     };
+    let literals = load_all(bytes, ask, query, guide, marks, &mut memory).ok_or(Stop::NoRoom)?;
+    let Memory { made, top, .. } = memory;
+    let (kept, made) = made.split_at_mut(top);
     let scene = Scene {
         query_at: from,
         tables: 0,
         count: ask.tables,
-        literals: literals.start,
+        literals,
         deep: DEEP,
     };
-    let (base, mem) = lent.split_at_mut(literals.top);
-    worked_out(
+    let lent = Lent {
         scene,
         bytes,
         guide,
-        marks,
-        base,
-        query,
-        mem,
-        literals.top,
-        ask.work,
-    )
+        literals: marks,
+    };
+    worked_out(&lent, query, Memory { kept, made, top }, ask.work)
 }

@@ -1,22 +1,24 @@
 -- The answer to a request, from what its checks say and what comes of asking.
-use Rattle.std.proofs.Common.{ℕ, List, refl, ap, ◌∙◌, arith}
+use Rattle.std.proofs.Common.{ℕ, List, Ok, Err, Result, refl, ap, ◌∙◌, arith}
 use Rattle.query.specs.Promise.{Asked, ask, Answer as Said, refused, is, tired, no_room, turned, RightAnswer, thin}
 use Rattle.format.specs.declared.node.Ask.{Ask}
+use Rattle.refusals.specs.Numbers.{number_of}
+use Rattle.refusals.specs.declared.Refusal.{Refusal}
+use Rattle.operators.specs.declared.came.Stop.{Stop}
 use Rattle.operators.specs.declared.came.Stop.TheVariants as st
 use Rattle.asking.specs.Asked.{Told}
 use Rattle.asking.specs.declared.outcome.Outcome.{Outcome}
-use Rattle.asking.specs.declared.outcome.Outcome.TheVariants as oc
 use Rattle.asking_desk.specs.Checked.{RefusedBy, LetThrough}
 use Rattle.asking_desk.specs.Answered.{Answered, StandsFor, Counted, answer_of}
 use Rattle.asking_desk.specs.declared.answer.Answer.{Answer}
 use Rattle.asking_desk.specs.declared.answer.Answer.TheVariants.{Refused, Is, Tired, NoRoom}
 use Rattle.asking_desk.proofs.Turning.{not_turned}
 
-pub refused_answer : (xs : List ℕ) (lent n p : ℕ) → RefusedBy xs lent n p → Answered thin xs lent (Refused n p)
-refused_answer xs lent n p r = record {
+pub refused_answer : (xs : List ℕ) (lent : ℕ) (why : Refusal) (p : ℕ) → RefusedBy xs lent (number_of why) p → Answered thin xs lent (Refused why p)
+refused_answer xs lent why p r = record {
   asked = r.asked;
   asks = r.asks;
-  said = refused n p;
+  said = refused (number_of why) p;
   stands = refl;
   refusal = λ h. ap (λ (k : ℕ). refused k p) r.number_is ∙ ap (λ (k : ℕ). refused (turned thin r.asked) k) r.place_is;
   right = λ z. absurd (let y : ⊥ = omega (arith, r.some, r.number_is, z) in y);
@@ -38,9 +40,9 @@ module _ (xs g : List ℕ) (a : Ask) (l : LetThrough xs g a) (lent : ℕ) where
     counted = counted;
   }
 
-  pub outcome_answer : (o : Outcome) → Told l.passed.schema l.passed.tables l.passed.query a.work lent o → Answered thin xs lent (answer_of o)
+  pub outcome_answer : (o : Result Outcome Stop) → Told l.passed.schema l.passed.tables l.passed.query a.work lent o → Answered thin xs lent (answer_of o)
   unfolding RightAnswer
-  outcome_answer (oc.Is ws looked) t = answered (Is ws looked) (is t.datum) (t.datum, refl, t.words) (t.within, t.is) t.counted
-  outcome_answer (oc.Stopped st.Tired) t = answered Tired tired refl t tt
-  outcome_answer (oc.Stopped st.NoRoom) t = answered NoRoom no_room refl t tt
-  outcome_answer (oc.Stopped st.Wrong) t = absurd t
+  outcome_answer (Ok o) t = answered (Is o.words o.looked) (is t.datum) (t.datum, refl, t.words) (t.within, t.is) t.counted
+  outcome_answer (Err st.Tired) t = answered Tired tired refl t tt
+  outcome_answer (Err st.NoRoom) t = answered NoRoom no_room refl t tt
+  outcome_answer (Err st.Wrong) t = absurd t

@@ -10,7 +10,8 @@ use Rattle.format.specs.declared.node.Ask.{Ask}
 use Rattle.checks.specs.Checks.{SchemaAt, QueryAt}
 use Rattle.guide.specs.Guide.{Guided}
 use Rattle.asking.specs.Passed.{Passed}
-use Rattle.asking_desk.specs.declared.check.Refusal.{Refusal}
+use Rattle.refusals.specs.Numbers.{number_of}
+use Rattle.refusals.specs.declared.Refusal.{Refusal}
 
 -- a query has a type, and the guide is right for it; or it has none
 abbrev pub TypedSo : Schema → Query → List ℕ → Option ℕ → Type 0
@@ -35,6 +36,6 @@ pub record LetThrough (xs g : List ℕ) (a : Ask) : Type 0 where
   pub fits : FitsRequest (to_ask passed.schema passed.tables passed.query a.work)
   pub is : xs ≡ write_request (to_ask passed.schema passed.tables passed.query a.work)
 
-abbrev pub Checked : List ℕ → List ℕ → Result Ask Refusal → Type 0
+abbrev pub Checked : List ℕ → List ℕ → Result Ask (Refusal × ℕ) → Type 0
 Checked xs g (Ok a) = LetThrough xs g a
-Checked xs g (Err r) = (lent : ℕ) → RefusedBy xs lent r.number r.place
+Checked xs g (Err r) = (lent : ℕ) → RefusedBy xs lent (number_of r.0) r.1

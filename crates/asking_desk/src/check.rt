@@ -1,92 +1,56 @@
 // The checks of a request, in the order in which they refuse it.
-ghost use Rattle.std.specs.Prelude.{◌≡◌, ℕ, ◌+◌, ◌≤◌, length, MatchResult};
-ghost use Rattle.typing.specs.Room.{Spacious};
 ghost use Rattle.asking_desk.specs.Checked.{TypeTold, Checked};
 
-use checks::{in_order, of_schema, within_limit};
+use crate::memory::Desk;
+use asking::asked::TYPES_AT;
+use checks::{LIMIT, in_order, of_schema, within_limit};
 use format::node::{Ask, Request};
 use format::requests::read_request;
 use guide::mark;
+use refusals::Refusal;
 use typed::whole::query_type;
-use typing::memory::Memory;
 
-// Why a request is refused: the number of the first check that it does not pass, and a place in its bytes.
-#[derive(Clone, Copy)]
-pub struct Refusal {
-    pub number: u8,
-    pub place: usize,
-}
-
-// Where bytes that were not read as a request cease to be one.
-fn place(read: Result<Request, usize>) -> usize
-    ensures { MatchResult read (λ q. result ≡ 0) (λ p. result ≡ p) }
-{
-    match read {
-        Ok(_) => 0,
-        Err(p) => p,
+impl Desk {
+    // The number of the query's type in the memory's table, with the guide to the query written; none where it has no type.
+    fn typed(&mut self, bytes: &[u8], ask: Ask) -> Option<u32>
+        ensures { TypeTold bytes.now self.new.guide.items ask result }
+    {
+        let query = bytes.get(ask.query_at..)?;
+        let _length = mark(query, &mut self.guide, 0, LIMIT)?;
+        query_type(
+            bytes,
+            &mut self.memory,
+            &self.guide,
+            TYPES_AT,
+            ask.types,
+            ask.query_at,
+        )
     }
-}
 
-// The number of the query's type in the memory's table, with the guide to the query written; none where it has no type.
-fn typed(memory: &mut Memory, guide: &mut [u32], bytes: &[u8], ask: Ask) -> Option<u32>
-    requires roomy { Spacious memory.old }
-    requires long { 73728 ≤ length guide.old }
-    ensures roomy { Spacious memory.new }
-    ensures told { TypeTold bytes.now guide.new ask result }
-{
-    let from = ask.query_at;
-    if from > bytes.len() {
-        return None;
+    // The request to ask that the bytes are, once it has passed every check; or the refusal by the first that it does not pass, with a place in the bytes.
+    // Each check hands on its value or returns its refusal by `let .. else`: that form is the project's rule for these checks.
+    pub fn checked(&mut self, bytes: &[u8]) -> Result<Ask, (Refusal, usize)>
+        ensures { Checked bytes.now self.new.guide.items result }
+    {
+        let read = read_request(bytes);
+        let Ok(request) = read else {
+            return Err((Refusal::NoRequest, read.err().unwrap_or(0)));
+        };
+        let Request::ToAsk(ask) = request else {
+            return Err((Refusal::CannotDo, 0));
+        };
+        let Some(_parts) = within_limit(bytes, TYPES_AT, ask.types, ask.query_at) else {
+            return Err((Refusal::TooManyParts, 0));
+        };
+        let true = in_order(bytes, TYPES_AT, ask.types) else {
+            return Err((Refusal::NotInOrder, 0));
+        };
+        let Some(_type) = self.typed(bytes, ask) else {
+            return Err((Refusal::NoType, 0));
+        };
+        let true = of_schema(bytes, TYPES_AT, ask.types, ask.tables_at, ask.tables) else {
+            return Err((Refusal::NotOfSchema, 0));
+        };
+        Ok(ask)
     }
-    let Some(_length) = mark(&bytes[from..], guide, 0, 8192) else {
-        return None;
-    };
-    query_type(bytes, memory, guide, 5, ask.types, from)
-}
-
-// The request to ask that the bytes are, once it has passed every check; or the refusal by the first that it does not pass.
-pub fn checked(memory: &mut Memory, guide: &mut [u32], bytes: &[u8]) -> Result<Ask, Refusal>
-    requires roomy { Spacious memory.old }
-    requires long { 73728 ≤ length guide.old }
-    ensures roomy { Spacious memory.new }
-    ensures told { Checked bytes.now guide.new result }
-{
-    let read = read_request(bytes);
-    let Ok(request) = read else {
-        return Err(Refusal {
-            number: 1,
-            place: place(read),
-        });
-    };
-    let Request::ToAsk(ask) = request else {
-        return Err(Refusal {
-            number: 6,
-            place: 0,
-        });
-    };
-    let Some(_parts) = within_limit(bytes, 5, ask.types, ask.query_at) else {
-        return Err(Refusal {
-            number: 2,
-            place: 0,
-        });
-    };
-    let true = in_order(bytes, 5, ask.types) else {
-        return Err(Refusal {
-            number: 3,
-            place: 0,
-        });
-    };
-    let Some(_type) = typed(memory, guide, bytes, ask) else {
-        return Err(Refusal {
-            number: 4,
-            place: 0,
-        });
-    };
-    let true = of_schema(bytes, 5, ask.types, ask.tables_at, ask.tables) else {
-        return Err(Refusal {
-            number: 5,
-            place: 0,
-        });
-    };
-    Ok(ask)
 }

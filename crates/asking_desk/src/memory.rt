@@ -1,5 +1,6 @@
 // Memory of the desk's own. It is made once and used again for each request, and it is enough for every request: none can fail for want of it.
-ghost use Rattle.std.specs.Prelude.{◌≡◌, ◌≤◌, vec_len, vec_capacity};
+ghost use Rattle.std.specs.Prelude.{◌≤◌, vec_len};
+ghost use Rattle.typing.specs.Room.{Spacious};
 
 use std::alloc::{AllocError, Global};
 use typing::memory::{Memory, new};
@@ -15,13 +16,7 @@ pub struct Desk {
     pub guide: Vec<u32>,
     // for each place at which the query writes something out, the number of that
     pub marks: Vec<u32>,
-    ghost places: { 8200 ≤ vec_capacity memory.names.places },
-    ghost entries: { 16400 ≤ vec_capacity memory.table.entries },
-    ghost fields: { 16793600 ≤ vec_capacity memory.table.fields },
-    ghost heads: { 8200 ≤ vec_capacity memory.work.heads },
-    ghost stack: { vec_len memory.work.stack ≡ 8200 },
-    ghost ranks: { 8200 ≤ vec_capacity memory.work.ranks },
-    ghost schema: { 8200 ≤ vec_capacity memory.schema },
+    ghost spacious: { Spacious memory },
     ghost guided: { 73728 ≤ vec_len guide },
     ghost marked: { 73728 ≤ vec_len marks },
 }

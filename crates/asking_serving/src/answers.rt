@@ -1,28 +1,16 @@
-// Requests are put to the desk, and answers turned into lines.
-ghost use Rattle.std.specs.Prelude.{◌≡◌, OnOk};
-ghost use Rattle.asking_serving.specs.Shown.{if_asked, Shows, Served};
+// A request is put to the desk, and its answer turned into a line.
+ghost use Rattle.std.specs.Prelude.{OnOk};
+ghost use Rattle.asking_serving.specs.Shown.{Shows, Served};
 
 use asking_desk::answer::Answer;
 use asking_desk::ask::answer;
-use asking_desk::memory::{Desk, make_desk};
+use asking_desk::memory::Desk;
 use printing::line::{no_room, outcome, refusal, tired};
-use serving::answers::{make_large, write_out};
-use serving::fault::Fault;
-use serving::requests::Requests;
+use serving::answers::make_large;
 use std::alloc::{AllocError, Global};
 
-// So many bytes of lines are gathered before they are written.
-const FULL: usize = 1048576;
-
-// How much was looked at, where that is asked for.
-fn if_asked(work: bool, looked: u64) -> Option<u64>
-    ensures { result ≡ if_asked work looked }
-{
-    if work { Some(looked) } else { None }
-}
-
 // Appends the line of an answer; `work` is whether to say how much was looked at.
-fn show_answer(
+pub fn show_answer(
     heap: Global,
     answer: Answer,
     work: bool,
@@ -31,8 +19,8 @@ fn show_answer(
     ensures { OnOk result (Shows answer.entry work out.old.items out.new.items) }
 {
     match answer {
-        Answer::Refused(number, place) => refusal(number, place, out),
-        Answer::Is(words, looked) => outcome(heap, words, if_asked(work, looked), out),
+        Answer::Refused(why, place) => refusal(u8::from(why), place, out),
+        Answer::Is(words, looked) => outcome(heap, words, work.then_some(looked), out),
         Answer::Tired => tired(out),
         Answer::NoRoom => no_room(out),
     }
@@ -53,34 +41,4 @@ pub fn answer_one(
     make_large(memory, numbers)?;
     let lent = &mut memory.as_mut_slice()[0..numbers];
     show_answer(heap, answer(desk, bytes, lent), work, out)
-}
-
-// Answers all requests of the file.
-pub fn answer_all(
-    rt: &HostRuntime,
-    heap: Global,
-    requests: &mut Requests,
-    work: bool,
-    out: &mut Vec<u8>,
-) -> Result<(), Fault> {
-    let mut desk = make_desk(heap)?;
-    let mut memory = Vec::new(heap);
-    for _ in 0..u64::MAX {
-        if !requests.advance()? {
-            break;
-        }
-        answer_one(
-            heap,
-            &mut desk,
-            requests.bytes(),
-            requests.numbers(),
-            &mut memory,
-            work,
-            out,
-        )?;
-        if out.len() >= FULL {
-            write_out(rt, out)?;
-        }
-    }
-    Ok(())
 }

@@ -3,7 +3,6 @@ use asking_desk::memory::{Desk, make_desk};
 use asking_serving::answers::answer_one;
 use serving::fault::Fault;
 use std::alloc::Global;
-use std::io;
 use std::time::Instant;
 
 // So many numbers are lent.
@@ -18,19 +17,9 @@ pub struct Bench {
     pub request: Vec<u8>,
 }
 
-fn cannot_write(written: io::Result<()>) -> Result<(), Fault> {
-    match written {
-        Ok(()) => Ok(()),
-        Err(e) => Err(Fault::CannotWrite(e)),
-    }
-}
-
 // Whether two seconds have passed.
 fn is_late(rt: &HostRuntime, start: Instant) -> bool {
-    match start.elapsed(rt) {
-        Ok(taken) => taken.as_secs() >= 2,
-        Err(_) => true,
-    }
+    start.elapsed(rt).map_or(true, |taken| taken.as_secs() >= 2)
 }
 
 impl Bench {
@@ -49,9 +38,7 @@ impl Bench {
 
     // Puts the request to the desk, with so many numbers lent, and prints what it is and its line. The next request begins with no bytes.
     pub fn put(&mut self, rt: &HostRuntime, what: &str, numbers: usize) -> Result<(), Fault> {
-        let Ok(start) = Instant::now(rt) else {
-            return Err(Fault::Memory);
-        };
+        let start = Instant::now(rt).map_err(|_e| Fault::Memory)?;
         answer_one(
             self.heap,
             &mut self.desk,
@@ -62,8 +49,9 @@ impl Bench {
             &mut self.line,
         )?;
         let late = if is_late(rt, start) { " (late)" } else { "" };
-        cannot_write(print!(rt; "{what}{late}: "))?;
-        cannot_write(rt.write_all(self.line.as_slice()))?;
+        print!(rt; "{what}{late}: ").map_err(Fault::CannotWrite)?;
+        rt.write_all(self.line.as_slice())
+            .map_err(Fault::CannotWrite)?;
         self.line.clear();
         self.request.clear();
         Ok(())

@@ -10,16 +10,17 @@ mod shared;
 mod short;
 mod write;
 
-use asking_serving::serve;
+use asking_serving::asker::Asking;
 use bench::Bench;
 use deep::{deep_data, deep_queries};
 use serving::fault::Fault;
+use serving::{serve, status};
 use shared::{shared_parts, vast};
 use short::{broken_off, nothing_lent};
 use std::process::ExitCode;
 
 fn run(rt: &HostRuntime) -> Result<(), Fault> {
-    serve(rt)?;
+    serve::<Asking>(rt)?;
     let mut bench = Bench::new(rt.alloc())?;
     deep_queries(rt, &mut bench)?;
     deep_data(rt, &mut bench)?;
@@ -30,8 +31,5 @@ fn run(rt: &HostRuntime) -> Result<(), Fault> {
 }
 
 fn main(rt: HostRuntime) -> ExitCode {
-    match run(&rt) {
-        Ok(()) => ExitCode::SUCCESS,
-        Err(_fault) => ExitCode::FAILURE,
-    }
+    status(run(&rt))
 }

@@ -39,8 +39,7 @@ pub fn datum(out: &mut Vec<u8>, n: u64) -> Result<(), AllocError> {
 
 // The lowest four bits of a number as a small hexadecimal digit.
 fn digit(n: u32) -> u8 {
-    let low = (n & 15) as u8;
-    if low < 10 { 48 + low } else { 87 + low }
+    b"0123456789abcdef"[(n & 15) as usize]
 }
 
 // A name of three bytes, the number in hexadecimal digits: such names are in order.

@@ -1,9 +1,15 @@
 -- What is in a bag, and each thing of a bag once.
-use Rattle.std.proofs.Common.{◌≡◌, ℕ, zero, suc, ◌+◌, ◌-◌, ◌*◌, ◌<◌, ◌≤◌, max, Bool, true, false, ◌||◌, List, length, Some, None, sym, refl, ap, ◌∙◌, subst, arith}
+use Rattle.std.proofs.Common.{◌≡◌, ℕ, zero, suc, ◌+◌, ◌-◌, ◌*◌, ◌<◌, ◌≤◌, max, Bool, true, false, ◌||◌, List, length, get_or, Some, None, sym, refl, ap, ◌∙◌, subst, add-one, arith}
+use Rattle.std.specs.Bool.{MatchBool}
+use Rattle.std.specs.List.{range_with_len, HoldsAt, AllWithin}
+use Rattle.std.proofs.Math.Bool.{or-true}
+use Rattle.std.proofs.lemmas.List.FromFn.{length-range_with_len, get_or-range_with_len}
 use native.Mathlib.Nat.{le-max_left, le-max_right}
 use Rattle.query.specs.Data.{pick, Data, Datas, none, more, same, how_many, is_in, once}
 use Rattle.values.specs.Height.{height, height_all}
-use Rattle.values.specs.Memory.{Used, Under, Holds, HoldsAll, Kept, Stored, Agree, Readable, loaded}
+use Rattle.values.specs.Memory.{Used, Under, Holds, HoldsAll, Kept, Stored, Agree, loaded}
+use Rattle.values.specs.Lent.{all, Taken, Crowded}
+use Rattle.values.specs.declared.lent.Memory.{Memory}
 use Rattle.values.specs.Making.{BagLies}
 use Rattle.values.proofs.Frame.{kept_refl, kept_agree, kept_trans, stored_kept, slot_same, holds_kept, all_kept}
 use Rattle.values.specs.declared.value.Place.{Place}
@@ -12,15 +18,7 @@ use Rattle.values.specs.declared.value.Value.TheVariants.{Bag}
 use Rattle.compare.specs.Compare.{Matches}
 use Rattle.bags.specs.Things.{rest}
 use Rattle.bags.specs.Bags.{IsWithin, TakesOnce}
-use Rattle.bags.proofs.Things.{thing_at, rest_all, as_many, bag_made}
-
--- none of the first things is the same
-pub record NotYet (bs m : List ℕ) (v : Value) (p : Place) (depth i : ℕ) : Type 0 where
-  pub so_far : (u : Used) (d : Data) (ds : Datas) (top : ℕ) → Holds bs m u d v → HoldsAll bs m u ds p.start p.count → Under u top → top ≤ length m → height d ≤ depth → is_in d ds ≡ is_in d (rest i ds)
-
-pub none_yet : (bs m : List ℕ) (v : Value) (p : Place) (depth : ℕ) → NotYet bs m v p depth 0
-unfolding rest
-none_yet bs m v p depth = record { so_far = λ u d ds top h a low room flat. refl }
+use Rattle.bags.proofs.Things.{thing_at, rest_all, as_many, bag_made, top_within, crowded_kept}
 
 in_this : (d e : Data) (es : Datas) → true ≡ same d e → is_in d (more e es) ≡ true
 unfolding is_in
@@ -34,37 +32,50 @@ in_none : (d : Data) → is_in d none ≡ false
 unfolding is_in
 in_none d = refl
 
+-- what is in a part of a bag is in it
+in_rest : (d : Data) (i : ℕ) (ds : Datas) → is_in d (rest i ds) ≡ true → is_in d ds ≡ true
+unfolding rest is_in
+in_rest d zero ds h = h
+in_rest d (suc i) none h = h
+in_rest d (suc i) (more e es) h = ap (λ z. same d e || z) (in_rest d i es h) ∙ or-true (same d e)
+
 -- what is in use below a top is below the end
 pub under_end : {u : Used} {top : ℕ} (end : ℕ) → Under u top → top ≤ end → Under u end
 under_end end low h = record { low = λ k t. omega (arith, low.low k t) }
 
-module _ (bs m : List ℕ) (v : Value) (p : Place) (depth i : ℕ) (s : NotYet bs m v p depth i) where
-  module _ (w : Value) (lt : i < p.count) (e : w ≡ loaded m (p.start + 3 * i)) where
-    pub is_this : Matches bs m v w depth true → IsWithin bs m v p depth true
-    is_this h =
-        record {
-          means = λ u d ds top hd a low room flat.
-              let t = thing_at bs m u ds p.start p.count i a lt in
-              let q = h.is d t.0 u hd (subst (λ x. Holds bs m u t.0 x) (sym e) t.2) (under_end (length m) low room) flat in
-              sym (s.so_far u d ds top hd a low room flat ∙ ap (is_in d) t.1 ∙ in_this d t.0 (rest (i + 1) ds) q);
-        }
+-- the thing of that number is the same or another
+abbrev pub IsThis : List ℕ → List ℕ → Value → Place → ℕ → Bool → ℕ → Type 0
+IsThis bs m v p depth r i = Matches bs m v (loaded m (p.start + 3 * i)) depth r
 
-    pub not_this : Matches bs m v w depth false → NotYet bs m v p depth (i + 1)
-    not_this h =
-        record {
-          so_far = λ u d ds top hd a low room flat.
-              let t = thing_at bs m u ds p.start p.count i a lt in
-              let q = h.is d t.0 u hd (subst (λ x. Holds bs m u t.0 x) (sym e) t.2) (under_end (length m) low room) flat in
-              s.so_far u d ds top hd a low room flat ∙ ap (is_in d) t.1 ∙ in_others d t.0 (rest (i + 1) ds) q;
-        }
+module _ (bs m : List ℕ) (v : Value) (p : Place) (depth : ℕ) where
+  as_told : (r : Bool) (i : ℕ) → i < p.count → IsThis bs m v p depth r i → (u : Used) (d : Data) (ds : Datas) (top : ℕ) → Holds bs m u d v → HoldsAll bs m u ds p.start p.count → Under u top → top ≤ length m → height d ≤ depth →
+      (e : Data) × (rest i ds ≡ more e (rest (i + 1) ds)) × (r ≡ same d e)
+  as_told r i lt h u d ds top hd a low room flat = let t = thing_at bs m u ds p.start p.count i a lt in (t.0, t.1, h.is d t.0 u hd t.2 (under_end (length m) low room) flat)
 
-  pub not_there : i ≡ p.count → IsWithin bs m v p depth false
-  not_there e =
-      record {
-        means = λ u d ds top hd a low room flat.
-            let z : rest i ds ≡ none = ap (λ x. rest x ds) e ∙ rest_all bs m u ds p.start p.count a in
-            sym (s.so_far u d ds top hd a low room flat ∙ ap (is_in d) z ∙ in_none d);
-      }
+  is_there : (i : ℕ) → i < p.count → IsThis bs m v p depth true i → IsWithin bs m v p depth true
+  is_there i lt h = record { means = λ u d ds top hd a low room flat. let t = as_told true i lt h u d ds top hd a low room flat in sym (in_rest d i ds (ap (is_in d) t.1 ∙ in_this d t.0 (rest (i + 1) ds) t.2)) }
+
+  not_past : (i : ℕ) → i ≤ p.count → ((k : ℕ) → k < i → IsThis bs m v p depth false k) → (u : Used) (d : Data) (ds : Datas) (top : ℕ) → Holds bs m u d v → HoldsAll bs m u ds p.start p.count → Under u top → top ≤ length m → height d ≤ depth → is_in d ds ≡ is_in d (rest i ds)
+  unfolding rest
+  not_past zero le h u d ds top hd a low room flat = refl
+  not_past (suc i) le h u d ds top hd a low room flat =
+      let t = as_told false i (omega arith) (h i (omega arith)) u d ds top hd a low room flat in
+      not_past i (omega arith) (λ k lt. h k (omega arith)) u d ds top hd a low room flat ∙ ap (is_in d) t.1 ∙ in_others d t.0 (rest (i + 1) ds) t.2 ∙ ap (λ z. is_in d (rest z ds)) (add-one i)
+
+  not_there : ((k : ℕ) → k < p.count → IsThis bs m v p depth false k) → IsWithin bs m v p depth false
+  not_there h = record { means = λ u d ds top hd a low room flat. sym (not_past p.count (omega arith) h u d ds top hd a low room flat ∙ ap (is_in d) (rest_all bs m u ds p.start p.count a) ∙ in_none d) }
+
+  -- what was found of the numbers of a bag's things
+  pub is_any : (r : Bool) → MatchBool r ((k : ℕ) × (k < length (range_with_len 0 p.count)) × HoldsAt (IsThis bs m v p depth true) (range_with_len 0 p.count) k) (AllWithin (IsThis bs m v p depth false) (range_with_len 0 p.count) 0 (length (range_with_len 0 p.count))) →
+      IsWithin bs m v p depth r
+  is_any true (k, lt, h) =
+      let l : k < p.count = omega (arith, lt, length-range_with_len 0 p.count) in
+      let e : get_or (range_with_len 0 p.count) k 0 ≡ k = get_or-range_with_len 0 p.count k 0 l ∙ (let z : 0 + k ≡ k = omega arith in z) in
+      is_there k l (subst (IsThis bs m v p depth true) e (h 0))
+  is_any false h =
+      not_there (λ k l.
+      let e : get_or (range_with_len 0 p.count) k 0 ≡ k = get_or-range_with_len 0 p.count k 0 l ∙ (let z : 0 + k ≡ k = omega arith in z) in
+      subst (IsThis bs m v p depth false) e (h k 0 (omega arith) (omega (arith, length-range_with_len 0 p.count))))
 
 -- no thing nests deeper than its bag
 rest_height : (i : ℕ) (ds : Datas) → height_all (rest i ds) ≤ height_all ds
@@ -93,20 +104,17 @@ pub record OnceFrom (bs : List ℕ) (p : Place) (m : List ℕ) (depth top : ℕ)
   pub room : top + 3 * p.count ≤ length n
   pub so_far : (u : Used) (ds : Datas) → BagLies bs m p ds u top → height_all ds ≤ depth → HoldsAll bs n u (once (rest i ds)) start count
 
-pub once_begins : (bs : List ℕ) (p : Place) (m : List ℕ) (depth top : ℕ) → top + 3 * p.count ≤ length m → OnceFrom bs p m depth top m p.count (top + 3 * p.count) 0
+pub once_begins : (bs : List ℕ) (p : Place) {m n : Memory} (depth : ℕ) {start : ℕ} → Taken 3 p.count m n start → OnceFrom bs p (all m) depth m.top (all n) p.count n.top 0
 unfolding once HoldsAll
-once_begins bs p m depth top h =
+once_begins bs p {m} {n} depth t =
+    let end : n.top ≡ m.top + 3 * p.count = t.moved.top in
     record {
-      kept = kept_refl;
+      kept = subst (λ x. Kept m.top (all m) x) (sym t.words) kept_refl;
       few = omega arith;
-      at = omega arith;
-      room = h;
-      so_far = λ u ds b flat. subst (λ z. HoldsAll bs m u (once z) (top + 3 * p.count) 0) (sym (rest_all bs m u ds p.start p.count b.lie)) refl;
+      at = omega (arith, end);
+      room = omega (arith, end, top_within n);
+      so_far = λ u ds b flat. subst (λ z. HoldsAll bs (all n) u (once z) n.top 0) (sym (rest_all bs (all m) u ds p.start p.count b.lie)) refl;
     }
-
--- the slots from the start on can be read
-pub once_readable : {bs : List ℕ} {p : Place} {m : List ℕ} {depth top : ℕ} {n : List ℕ} {i start count : ℕ} → OnceFrom bs p m depth top n i start count → Readable (record { start = start; count = count }) (length n)
-once_readable g = record { spots = λ k lt. omega (arith, g.at, g.room) }
 
 module _ (bs : List ℕ) (p : Place) (m : List ℕ) (depth top : ℕ) (n : List ℕ) (i start count : ℕ) (g : OnceFrom bs p m depth top n i start count) (some : 0 < i) (v : Value) (e : v ≡ loaded n (p.start + 3 * (i - 1))) where
   back : i - 1 + 1 ≡ i
@@ -169,5 +177,5 @@ once_ends bs p m depth top n i start count g e =
           (omega (arith, g.at, g.few)) (omega (arith, g.at)) g.room (omega (arith, as_many bs m u ds p.start p.count b.lie));
     }
 
-pub once_no_room : (bs : List ℕ) (p : Place) (m : List ℕ) (depth top : ℕ) → length m < top + 3 * p.count → TakesOnce bs p m depth top m None
-once_no_room bs p m depth top h = record { kept = kept_refl; means = λ u ds b flat. omega (arith, as_many bs m u ds p.start p.count b.lie) }
+pub once_no_room : (bs : List ℕ) (p : Place) {m n : Memory} (depth : ℕ) → Crowded m n (3 * p.count) → TakesOnce bs p (all m) depth m.top (all n) None
+once_no_room bs p {m} depth c = record { kept = crowded_kept c; means = λ u ds b flat. omega (arith, as_many bs (all m) u ds p.start p.count b.lie, ap length c.words, c.short) }

@@ -1,18 +1,22 @@
 -- A bag of bags as one bag.
-use Rattle.std.proofs.Common.{◌≡◌, ℕ, ◌+◌, ◌*◌, ◌<◌, ◌≤◌, true, false, ◌&&◌, List, length, Some, None, sym, refl, ap, ◌∙◌, subst, arith}
+use Rattle.std.proofs.Common.{◌≡◌, ℕ, ◌+◌, ◌*◌, ◌<◌, ◌≤◌, true, false, ◌&&◌, List, length, Some, None, Option, Ok, Err, Result, sym, refl, ap, ◌∙◌, subst, arith}
+use Rattle.std.specs.Option.{ok_or}
 use Rattle.query.specs.Data.{Data, unit, num, truth, text, bag, rec, left, right, Datas, none, more, join, how_many}
 use Rattle.query.specs.Query.{Got, failed, on_bag, flat_all}
-use Rattle.values.specs.Memory.{Used, Run, Holds, HoldsAll, Kept, Agree, Copied, Readable, loaded}
+use Rattle.values.specs.Memory.{Used, Run, Holds, HoldsAll, Kept, Agree, Readable, loaded}
+use Rattle.values.specs.Lent.{all, Appended, Appends, Crowded}
+use Rattle.values.specs.declared.lent.Memory.{Memory}
 use Rattle.values.specs.Making.{BagLies}
 use Rattle.values.proofs.Frame.{kept_refl, kept_agree, kept_less, kept_trans, slot_same, all_kept}
 use Rattle.values.proofs.Copy.{all_copied, all_join}
 use Rattle.values.specs.declared.value.Place.{Place}
 use Rattle.values.specs.declared.value.Value.{Value}
 use Rattle.values.specs.declared.value.Value.TheVariants.{Bag}
-use Rattle.bags.specs.declared.flat.Flattened.TheVariants as came
+use Rattle.bags.specs.declared.flat.NotFlat.{NotFlat}
+use Rattle.bags.specs.declared.flat.NotFlat.TheVariants as unflat
 use Rattle.bags.specs.Things.{rest, a_bag, things, all_bags, joined_all}
-use Rattle.bags.specs.Bags.{ABag, Counts, RoomForAll, Fills, Flattens}
-use Rattle.bags.proofs.Things.{thing_at, rest_all, as_many, join_many, join_none, join_assoc, bag_made}
+use Rattle.bags.specs.Bags.{ABag, Counts, Flattens}
+use Rattle.bags.proofs.Things.{thing_at, rest_all, as_many, join_many, join_none, join_assoc, bag_made, top_within, crowded_kept}
 
 -- the definition in one step, where all are bags, and where one is none
 pub flat_joins : (ds : Datas) (f : Datas → Got) → all_bags ds ≡ true → flat_all ds f ≡ f (joined_all ds)
@@ -119,121 +123,130 @@ module _ (p : Place) (m : List ℕ) (i total : ℕ) (s : Counted p m i total) wh
             (y.0 ∙ ap all_bags z, omega (arith, y.1));
       }
 
--- the things of some bags lie from a top on, and those of the rest are to come
-pub record Filled (p : Place) (m : List ℕ) (top : ℕ) (n : List ℕ) (i high : ℕ) : Type 0 where
-  pub kept : Kept top m n
-  pub over : top ≤ high
-  pub so_far : (bs : List ℕ) (u : Used) (ds : Datas) → BagLies bs m p ds u top →
-      (xs : Datas) × (joined_all ds ≡ join xs (joined_all (rest i ds))) × (high ≡ top + 3 * how_many xs) × HoldsAll bs n u xs top (how_many xs)
+-- the things of some bags lie where free memory began, and those of the rest are to come
+pub record Filled (p : Place) (m n : Memory) (i : ℕ) : Type 0 where
+  pub frozen : n.kept.now ≡ m.kept.now
+  pub kept : Kept m.top (all m) (all n)
+  pub over : m.top ≤ n.top
+  pub so_far : (bs : List ℕ) (u : Used) (ds : Datas) → BagLies bs (all m) p ds u m.top →
+      (xs : Datas) × (joined_all ds ≡ join xs (joined_all (rest i ds))) × (n.top ≡ m.top + 3 * how_many xs) × HoldsAll bs (all n) u xs m.top (how_many xs)
 
-pub fill_begins : (p : Place) (m : List ℕ) (top : ℕ) → Filled p m top m 0 top
+pub fill_begins : (p : Place) (m : Memory) → Filled p m m 0
 unfolding rest join how_many HoldsAll
-fill_begins p m top = record { kept = kept_refl; over = omega arith; so_far = λ bs u ds b. (none, refl, omega arith, refl) }
+fill_begins p m = record { frozen = refl; kept = kept_refl; over = omega arith; so_far = λ bs u ds b. (none, refl, omega arith, refl) }
 
-module _ (p : Place) (m : List ℕ) (top : ℕ) (n : List ℕ) (i high : ℕ) (s : Filled p m top n i high) where
+module _ (p : Place) (m n : Memory) (i : ℕ) (s : Filled p m n i) where
   -- a slot below the top is as it was
-  there : (v : Value) {bs : List ℕ} {u : Used} {ds : Datas} → BagLies bs m p ds u top → i < p.count → v ≡ loaded n (p.start + 3 * i) → loaded m (p.start + 3 * i) ≡ v
-  there v b lt e = sym (e ∙ slot_same m n (p.start + 3 * i) (λ k x y. s.kept.same k (b.low.low k (b.run.used k (omega arith) (omega arith)))))
+  there : (v : Value) {bs : List ℕ} {u : Used} {ds : Datas} → BagLies bs (all m) p ds u m.top → i < p.count → v ≡ loaded (all n) (p.start + 3 * i) → loaded (all m) (p.start + 3 * i) ≡ v
+  there v b lt e = sym (e ∙ slot_same (all m) (all n) (p.start + 3 * i) (λ k x y. s.kept.same k (b.low.low k (b.run.used k (omega arith) (omega arith)))))
 
   -- what the bag at a slot is
-  bag_there : (q : Place) {bs : List ℕ} {u : Used} {ds : Datas} → BagLies bs m p ds u top → i < p.count → Bag q ≡ loaded n (p.start + 3 * i) →
-      (es : Datas) × (joined_all (rest i ds) ≡ join es (joined_all (rest (i + 1) ds))) × Run u q.start (3 * q.count) × HoldsAll bs m u es q.start q.count
+  bag_there : (q : Place) {bs : List ℕ} {u : Used} {ds : Datas} → BagLies bs (all m) p ds u m.top → i < p.count → Bag q ≡ loaded (all n) (p.start + 3 * i) →
+      (es : Datas) × (joined_all (rest i ds) ≡ join es (joined_all (rest (i + 1) ds))) × Run u q.start (3 * q.count) × HoldsAll bs (all m) u es q.start q.count
   bag_there q {bs} {u} {ds} b lt v =
-      let t = thing_at bs m u ds p.start p.count i b.lie lt in
-      let h = on_bags t.0 bs m u q (subst (λ x. Holds bs m u t.0 x) (there (Bag q) b lt v) t.2) in
+      let t = thing_at bs (all m) u ds p.start p.count i b.lie lt in
+      let h = on_bags t.0 bs (all m) u q (subst (λ x. Holds bs (all m) u t.0 x) (there (Bag q) b lt v) t.2) in
       (things t.0, joined_is ds i t.0 t.1, h.1, h.2)
 
-  pub fill_readable : (q : Place) → RoomForAll p m top → i < p.count → Bag q ≡ loaded n (p.start + 3 * i) → Readable q high
+  pub fill_readable : (q : Place) → ABag p (all m) m.top → i < p.count → Bag q ≡ loaded (all n) (p.start + 3 * i) → Readable q n.top
   fill_readable q r lt v =
-      let b = r.bag.lies in
+      let b = r.lies in
       let t = bag_there q b lt v in
-      record { spots = λ j l. let k : q.start + 3 * j + 2 < top = b.low.low _ (t.2.used (q.start + 3 * j + 2) (omega arith) (omega arith)) in omega (arith, s.over) }
+      record { spots = λ j l. let k : q.start + 3 * j + 2 < m.top = b.low.low _ (t.2.used (q.start + 3 * j + 2) (omega arith) (omega arith)) in omega (arith, s.over) }
 
-  pub fill_room : (q : Place) → RoomForAll p m top → i < p.count → Bag q ≡ loaded n (p.start + 3 * i) → high + 3 * q.count ≤ length m
-  fill_room q r lt v =
-      let b = r.bag.lies in
-      let t = bag_there q b lt v in
-      let z = s.so_far r.bag.bytes r.bag.used r.bag.things b in
-      let a = ap how_many z.1 in
-      let j = ap how_many t.1 in
-      omega (arith, r.room, z.2, a, join_many z.0 (joined_all (rest i r.bag.things)), j, join_many t.0 (joined_all (rest (i + 1) r.bag.things)), as_many _ _ _ t.0 q.start q.count t.3)
-
-  pub fill_more : (q : Place) (o : List ℕ) → i < p.count → Bag q ≡ loaded n (p.start + 3 * i) → Copied q high q.count n o → Filled p m top o (i + 1) (high + 3 * q.count)
-  fill_more q o lt v c =
+  pub fill_more : (q : Place) {o : Memory} {start : ℕ} → i < p.count → Bag q ≡ loaded (all n) (p.start + 3 * i) → Appended q n o start → Filled p m o (i + 1)
+  fill_more q {o} lt v e =
+      let c = e.copied in
       record {
+        frozen = e.moved.frozen ∙ s.frozen;
         kept = kept_trans s.kept c.kept s.over;
-        over = omega (arith, s.over);
+        over = omega (arith, s.over, e.moved.top);
         so_far = λ bs u ds b.
             let t = bag_there q b lt v in
             let z = s.so_far bs u ds b in
-            let a : Agree u m n = kept_agree b.low s.kept in
-            let a2 : Agree u n o = kept_agree b.low (kept_less c.kept s.over) in
+            let a : Agree u (all m) (all n) = kept_agree b.low s.kept in
+            let a2 : Agree u (all n) (all o) = kept_agree b.low (kept_less c.kept s.over) in
             let k = how_many z.0 in
-            let l = as_many bs m u t.0 q.start q.count t.3 in
-            let one : HoldsAll bs o u z.0 top k = all_kept bs u z.0 top k a2 (λ j y. y) (λ j x y. c.kept.same j (omega (arith, z.2))) z.3 in
-            let from : HoldsAll bs n u t.0 q.start q.count = all_kept bs u t.0 q.start q.count a (λ j y. y) (λ j x y. a.same j (t.2.used j x y)) t.3 in
-            let other : HoldsAll bs o u t.0 high q.count = all_copied bs n o u t.0 q.start high q.count a2 c.there from in
-            let both : HoldsAll bs o u (join z.0 t.0) top (k + q.count) = all_join bs o u z.0 t.0 top k q.count one (subst (λ x. HoldsAll bs o u t.0 x q.count) z.2 other) in
+            let l = as_many bs (all m) u t.0 q.start q.count t.3 in
+            let one : HoldsAll bs (all o) u z.0 m.top k = all_kept bs u z.0 m.top k a2 (λ j y. y) (λ j x y. c.kept.same j (omega (arith, z.2))) z.3 in
+            let from : HoldsAll bs (all n) u t.0 q.start q.count = all_kept bs u t.0 q.start q.count a (λ j y. y) (λ j x y. a.same j (t.2.used j x y)) t.3 in
+            let other : HoldsAll bs (all o) u t.0 n.top q.count = all_copied bs (all n) (all o) u t.0 q.start n.top q.count a2 c.there from in
+            let both : HoldsAll bs (all o) u (join z.0 t.0) m.top (k + q.count) = all_join bs (all o) u z.0 t.0 m.top k q.count one (subst (λ x. HoldsAll bs (all o) u t.0 x q.count) z.2 other) in
             let many : how_many (join z.0 t.0) ≡ k + q.count = join_many z.0 t.0 ∙ ap (λ x. k + x) l in (
               join z.0 t.0,
               z.1 ∙ ap (join z.0) t.1 ∙ sym (join_assoc z.0 t.0 (joined_all (rest (i + 1) ds))),
-              omega (arith, z.2, many),
-              subst (λ x. HoldsAll bs o u (join z.0 t.0) top x) (sym many) both,
+              omega (arith, z.2, many, e.moved.top),
+              subst (λ x. HoldsAll bs (all o) u (join z.0 t.0) m.top x) (sym many) both,
             );
       }
 
-  pub fill_skips : (v : Value) → i < p.count → v ≡ loaded n (p.start + 3 * i) → HasNoBag v → Filled p m top n (i + 1) high
+  pub fill_skips : (v : Value) → i < p.count → v ≡ loaded (all n) (p.start + 3 * i) → HasNoBag v → Filled p m n (i + 1)
   unfolding join
   fill_skips v lt e no-b =
       record {
+        frozen = s.frozen;
         kept = s.kept;
         over = s.over;
         so_far = λ bs u ds b.
-            let t = thing_at bs m u ds p.start p.count i b.lie lt in
-            let h = no_bags t.0 bs m u v no-b (subst (λ x. Holds bs m u t.0 x) (there v b lt e) t.2) in
+            let t = thing_at bs (all m) u ds p.start p.count i b.lie lt in
+            let h = no_bags t.0 bs (all m) u v no-b (subst (λ x. Holds bs (all m) u t.0 x) (there v b lt e) t.2) in
             let z = s.so_far bs u ds b in
             (z.0, z.1 ∙ ap (join z.0) (joined_is ds i t.0 t.1 ∙ ap (λ x. join x (joined_all (rest (i + 1) ds))) h.1), z.2, z.3);
       }
 
-  pub fill_ends : i ≡ p.count → Fills p m top n high
-  unfolding joined_all
-  fill_ends e =
-      record {
-        kept = s.kept;
-        means = λ bs u ds b.
-            let z = s.so_far bs u ds b in
-            let y : rest i ds ≡ none = ap (λ x. rest x ds) e ∙ rest_all bs m u ds p.start p.count b.lie in
-            let x : joined_all ds ≡ z.0 = z.1 ∙ ap (λ q. join z.0 (joined_all q)) y ∙ join_none z.0 in
-            (z.2 ∙ ap (λ q. top + 3 * how_many q) (sym x), subst (λ q. HoldsAll bs n u q top (how_many q)) (sym x) z.3);
-      }
+  module _ (k : ℕ) (c : Counts p (all m) (Some k)) where
+    fill_no_room : (q : Place) {o : Memory} (end : ℕ) → i < p.count → Bag q ≡ loaded (all n) (p.start + 3 * i) → Crowded n o (3 * q.count) → Flattens p (all m) m.top (all o) end (Err (unflat.NoRoom k))
+    fill_no_room q {o} end lt v e =
+        record {
+          kept = kept_trans s.kept (crowded_kept {top = m.top} e) (omega arith);
+          means = λ bs u ds b.
+              let y = c.means bs u ds m.top b in
+              let t = bag_there q b lt v in
+              let z = s.so_far bs u ds b in
+              let a = ap how_many z.1 in
+              let j = ap how_many t.1 in
+              let few = join_many t.0 (joined_all (rest (i + 1) ds)) in (
+                joined_all ds,
+                record { flat = λ f. flat_joins ds f y.0; many = y.1 },
+                omega (arith, ap length e.words, e.short, z.2, a, join_many z.0 (joined_all (rest i ds)), j, few, as_many bs (all m) u t.0 q.start q.count t.3),
+              );
+        }
 
-module _ (p : Place) (m : List ℕ) (top : ℕ) where
-  pub flat_no_bag : Counts p m None → Flattens p m top m came.NoBag
-  flat_no_bag c = record { kept = kept_refl; means = λ bs u ds b f. flat_fails ds f (c.means bs u ds top b) }
+    pub not_appended : (q : Place) (o : Memory) (end : ℕ) (r : Option ℕ) (e : NotFlat) → i < p.count → Bag q ≡ loaded (all n) (p.start + 3 * i) → Appends q n o r → Err e ≡ ok_or r (unflat.NoRoom k) → Flattens p (all m) m.top (all o) end (Err e)
+    not_appended q o end None e lt v a h = let z : ◌≡◌ {A = Result ℕ NotFlat} (Err e) (Err (unflat.NoRoom k)) = h in let y : e ≡ unflat.NoRoom k = cc in rw y (fill_no_room q end lt v a)
+    not_appended q o end (Some at) e lt v a h = absurd (let z : ◌≡◌ {A = Result ℕ NotFlat} (Err e) (Ok at) = h in let y : ⊥ = cc in y)
 
-  pub flat_no_room : (k : ℕ) → Counts p m (Some k) → length m < top + 3 * k → Flattens p m top m (came.NoRoom k)
-  flat_no_room k c h =
-      record {
-        kept = kept_refl;
-        means = λ bs u ds b.
-            let z = c.means bs u ds top b in
-            (joined_all ds, record { flat = λ f. flat_joins ds f z.0; many = z.1 }, omega (arith, z.1));
-      }
+    -- where all were gone through
+    module _ (e : i ≡ p.count) where
+      end_is : {bs : List ℕ} {u : Used} {ds : Datas} → BagLies bs (all m) p ds u m.top → (n.top ≡ m.top + 3 * k) × HoldsAll bs (all n) u (joined_all ds) m.top k
+      unfolding joined_all
+      end_is {bs} {u} {ds} b =
+          let y = c.means bs u ds m.top b in
+          let z = s.so_far bs u ds b in
+          let w : rest i ds ≡ none = ap (λ x. rest x ds) e ∙ rest_all bs (all m) u ds p.start p.count b.lie in
+          let x : joined_all ds ≡ z.0 = z.1 ∙ ap (λ q. join z.0 (joined_all q)) w ∙ join_none z.0 in
+          let l : how_many z.0 ≡ k = sym (y.1 ∙ ap how_many x) in
+          (z.2 ∙ ap (λ q. m.top + 3 * q) l, subst (λ q. HoldsAll bs (all n) u q m.top k) (sym x) (subst (λ q. HoldsAll bs (all n) u z.0 m.top q) l z.3))
 
-  pub flat_room : (k : ℕ) → ABag p m top → Counts p m (Some k) → top + 3 * k ≤ length m → RoomForAll p m top
-  flat_room k b c h = record { bag = b; room = omega (arith, (c.means b.bytes b.used b.things top b.lies).1) }
+      pub flat_fits : ABag p (all m) m.top → 3 * k ≤ n.top
+      flat_fits r = omega (arith, (end_is r.lies).0)
 
-  pub flat_made : (k : ℕ) (n : List ℕ) (end : ℕ) → Counts p m (Some k) → top + 3 * k ≤ length m → Fills p m top n end →
-      Flattens p m top n (came.Made (record { value = Bag (record { start = top; count = k }); top = end }) k)
-  flat_made k n end c h f =
-      record {
-        kept = f.kept;
-        means = λ bs u ds b.
-            let z = c.means bs u ds top b in
-            let y = f.means bs u ds b in (
-              joined_all ds,
-              record { flat = λ g. flat_joins ds g z.0; many = z.1 },
-              bag_made bs n (joined_all ds) u top end top k (3 * how_many (joined_all ds)) (subst (λ x. HoldsAll bs n u (joined_all ds) top x) (sym z.1) y.1)
-                  (omega arith) (omega (arith, z.1, y.0)) (omega (arith, f.kept.long, z.1, y.0)) (omega (arith, y.0)),
-            );
-      }
+      pub flat_made : Flattens p (all m) m.top (all n) n.top (Ok (record { bag = Bag (record { start = m.top; count = k }); count = k }))
+      flat_made =
+          record {
+            kept = s.kept;
+            means = λ bs u ds b.
+                let y = c.means bs u ds m.top b in
+                let z = end_is b in (
+                  joined_all ds,
+                  record { flat = λ g. flat_joins ds g y.0; many = y.1 },
+                  bag_made bs (all n) (joined_all ds) u m.top n.top m.top k (3 * how_many (joined_all ds)) z.1 (omega arith) (omega (arith, z.0)) (top_within n) (omega (arith, z.0, y.1)),
+                );
+          }
+
+flat_no_bag : (p : Place) (m : List ℕ) (top end : ℕ) → Counts p m None → Flattens p m top m end (Err unflat.NoBag)
+flat_no_bag p m top end c = record { kept = kept_refl; means = λ bs u ds b f. flat_fails ds f (c.means bs u ds top b) }
+
+pub not_counted : (p : Place) (m : List ℕ) (top end : ℕ) (r : Option ℕ) (e : NotFlat) → Counts p m r → Err e ≡ ok_or r unflat.NoBag → Flattens p m top m end (Err e)
+not_counted p m top end None e c h = let z : ◌≡◌ {A = Result ℕ NotFlat} (Err e) (Err unflat.NoBag) = h in let y : e ≡ unflat.NoBag = cc in rw y (flat_no_bag p m top end c)
+not_counted p m top end (Some k) e c h = absurd (let z : ◌≡◌ {A = Result ℕ NotFlat} (Err e) (Ok k) = h in let y : ⊥ = cc in y)

@@ -1,9 +1,11 @@
 -- Things of a bag, one by one.
-use Rattle.std.proofs.Common.{◌≡◌, ℕ, zero, suc, ◌+◌, ◌*◌, ◌<◌, ◌≤◌, List, length, sym, refl, ap, ◌∙◌, subst, add-one, arith}
+use Rattle.std.proofs.Common.{◌≡◌, ℕ, zero, suc, ◌+◌, ◌*◌, ◌<◌, ◌≤◌, List, length, sym, refl, ap, ◌∙◌, subst, add-one, arith, length-append}
 use Rattle.query.specs.Data.{Data, bag, Datas, none, more, join, how_many}
-use Rattle.values.specs.Memory.{Used, Holds, HoldsAll, loaded, Readable}
+use Rattle.values.specs.Memory.{Used, Holds, HoldsAll, loaded, Readable, Kept}
+use Rattle.values.specs.Lent.{all, Crowded}
 use Rattle.values.specs.Making.{MadeAs, BagLies}
-use Rattle.values.proofs.Frame.{all_kept}
+use Rattle.values.proofs.Frame.{kept_refl, all_kept}
+use Rattle.values.specs.declared.lent.Memory.{Memory}
 use Rattle.values.specs.declared.value.Place.{Place}
 use Rattle.values.specs.declared.value.Value.TheVariants.{Bag}
 use Rattle.bags.specs.Things.{rest}
@@ -84,3 +86,10 @@ bag_made bs n ds u top end start k need h a b c e =
       within = c;
       thrifty = e;
     }
+
+-- what is in use of lent memory lies in it
+pub top_within : (m : Memory) → m.top ≤ length (all m)
+top_within m = omega (arith, m.within, length-append m.kept.now m.made.now)
+
+pub crowded_kept : {top need : ℕ} {m n : Memory} → Crowded m n need → Kept top (all m) (all n)
+crowded_kept {top} {m = m} c = subst (λ x. Kept top (all m) x) (sym c.words) kept_refl

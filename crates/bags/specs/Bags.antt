@@ -1,5 +1,5 @@
 -- What the operators on bags promise. What they make is told for whatever data the bags that they are given stand for.
-use Rattle.std.specs.Prelude.{◌≡◌, ℕ, ◌+◌, ◌*◌, ◌<◌, ◌≤◌, Bool, true, false, List, length, Some, None, Option}
+use Rattle.std.specs.Prelude.{◌≡◌, ℕ, ◌+◌, ◌*◌, ◌<◌, ◌≤◌, Bool, true, false, List, length, Some, None, Option, Ok, Err, Result}
 use Rattle.query.specs.Data.{Data, bag, Datas, none, more, join, how_many, is_in, once}
 use Rattle.query.specs.Query.{Got, failed, flat_all, sum_all}
 use Rattle.values.specs.Memory.{Used, Under, Holds, HoldsAll, Kept}
@@ -7,10 +7,11 @@ use Rattle.values.specs.Height.{height, height_all}
 use Rattle.values.specs.Making.{MadeAs, Makes, BagLies}
 use Rattle.values.specs.declared.value.Place.{Place}
 use Rattle.values.specs.declared.value.Value.{Value}
-use Rattle.values.specs.declared.value.Made.{Made}
+use Rattle.values.specs.Made.{Made}
 use Rattle.bags.specs.Things.{all_bags, joined_all}
 use Rattle.bags.specs.declared.flat.Flattened.{Flattened}
-use Rattle.bags.specs.declared.flat.Flattened.TheVariants as came
+use Rattle.bags.specs.declared.flat.NotFlat.{NotFlat}
+use Rattle.bags.specs.declared.flat.NotFlat.TheVariants as unflat
 
 -- a bag of some things lies at a place
 pub record ABag (p : Place) (m : List ℕ) (top : ℕ) : Type 0 where
@@ -45,29 +46,19 @@ CountIs ds None = all_bags ds ≡ false
 pub record Counts (p : Place) (m : List ℕ) (r : Option ℕ) : Type 0 where
   pub means : (bs : List ℕ) (u : Used) (ds : Datas) (top : ℕ) → BagLies bs m p ds u top → CountIs ds r
 
--- there is room for all
-pub record RoomForAll (p : Place) (m : List ℕ) (top : ℕ) : Type 0 where
-  pub bag : ABag p m top
-  pub room : top + 3 * how_many (joined_all bag.things) ≤ length m
-
--- all lie from a place on
-pub record Fills (p : Place) (m : List ℕ) (top : ℕ) (n : List ℕ) (end : ℕ) : Type 0 where
-  pub kept : Kept top m n
-  pub means : (bs : List ℕ) (u : Used) (ds : Datas) → BagLies bs m p ds u top → (end ≡ top + 3 * how_many (joined_all ds)) × HoldsAll bs n u (joined_all ds) top (how_many (joined_all ds))
-
 -- a bag of bags is a bag of what is in them, or one of its things is no bag
 pub record FlatIs (ds xs : Datas) (count : ℕ) : Type 0 where
   pub flat : (f : Datas → Got) → flat_all ds f ≡ f xs
   pub many : count ≡ how_many xs
 
-abbrev pub FlatMakes : List ℕ → Datas → Used → ℕ → List ℕ → Flattened → Type 0
-FlatMakes bs ds u top n (came.Made r k) = (xs : Datas) × FlatIs ds xs k × MadeAs bs (bag xs) u top (3 * how_many xs) n r
-FlatMakes bs ds u top n (came.NoRoom k) = (xs : Datas) × FlatIs ds xs k × (length n < top + 3 * how_many xs)
-FlatMakes bs ds u top n came.NoBag = (f : Datas → Got) → flat_all ds f ≡ failed 0
+abbrev pub FlatMakes : List ℕ → Datas → Used → ℕ → List ℕ → ℕ → Result Flattened NotFlat → Type 0
+FlatMakes bs ds u top n end (Ok f) = (xs : Datas) × FlatIs ds xs f.count × MadeAs bs (bag xs) u top (3 * how_many xs) n (record { value = f.bag; top = end })
+FlatMakes bs ds u top n end (Err (unflat.NoRoom k)) = (xs : Datas) × FlatIs ds xs k × (length n < top + 3 * how_many xs)
+FlatMakes bs ds u top n end (Err unflat.NoBag) = (f : Datas → Got) → flat_all ds f ≡ failed 0
 
-pub record Flattens (p : Place) (m : List ℕ) (top : ℕ) (n : List ℕ) (r : Flattened) : Type 0 where
+pub record Flattens (p : Place) (m : List ℕ) (top : ℕ) (n : List ℕ) (end : ℕ) (r : Result Flattened NotFlat) : Type 0 where
   pub kept : Kept top m n
-  pub means : (bs : List ℕ) (u : Used) (ds : Datas) → BagLies bs m p ds u top → FlatMakes bs ds u top n r
+  pub means : (bs : List ℕ) (u : Used) (ds : Datas) → BagLies bs m p ds u top → FlatMakes bs ds u top n end r
 
 -- a datum is in a bag
 pub record IsWithin (bs m : List ℕ) (v : Value) (p : Place) (depth : ℕ) (r : Bool) : Type 0 where

@@ -1,46 +1,32 @@
 // Bags of values that are there already: one value in a bag, and two bags in one.
-ghost use Rattle.std.specs.Prelude.{◌+◌, ◌≤◌, ◌++◌, length};
-ghost use Rattle.values.specs.Memory.{Space, Readable};
+ghost use Rattle.std.specs.Prelude.{◌≡◌};
+ghost use Rattle.values.specs.Memory.{Readable};
+ghost use Rattle.values.specs.Lent.{all, made_to};
 ghost use Rattle.bags.specs.Bags.{PutsInBag, Joins};
 
-use values::memory::{copy, size, store};
-use values::value::{Made, Place, Value};
+use values::lent::Memory;
+use values::value::{Place, Value};
 
-// A bag of one value.
-pub fn in_bag(base: &[u64], mem: &mut [u64], value: Value, top: usize) -> Option<Made>
-    requires space { Space base.now mem.old top }
-    requires within { top ≤ length base.now + length mem.old }
-    ensures { PutsInBag value (base.now ++ mem.old) top (base.now ++ mem.new) result }
+// A bag of one value, if there is room.
+pub fn in_bag(memory: &mut Memory, value: Value) -> Option<Value>
+    ensures frozen { memory.new.kept.now ≡ memory.old.kept.now }
+    ensures makes { PutsInBag value (all memory.old) memory.old.top (all memory.new) (made_to memory.new.top result) }
 {
-    if size(base, mem) - top < 3 {
-        return None;
-    }
-    store(base, mem, top, value);
-    Some(Made {
-        value: Value::Bag(Place {
-            start: top,
-            count: 1,
-        }),
-        top: top + 3,
-    })
+    let start = memory.push(value)?;
+    Some(Value::Bag(Place { start, count: 1 }))
 }
 
 // All of one bag, and then all of another.
-pub fn join_bags(base: &[u64], mem: &mut [u64], x: Place, y: Place, top: usize) -> Option<Made>
-    requires space { Space base.now mem.old top }
-    requires within { top ≤ length base.now + length mem.old }
-    requires first { Readable x top }
-    requires second { Readable y top }
-    ensures { Joins x y (base.now ++ mem.old) top (base.now ++ mem.new) result }
+pub fn join_bags(memory: &mut Memory, x: Place, y: Place) -> Option<Value>
+    requires first { Readable x memory.old.top }
+    requires second { Readable y memory.old.top }
+    ensures frozen { memory.new.kept.now ≡ memory.old.kept.now }
+    ensures makes { Joins x y (all memory.old) memory.old.top (all memory.new) (made_to memory.new.top result) }
 {
-    let count = x.count + y.count;
-    if (size(base, mem) - top) / 3 < count {
-        return None;
-    }
-    copy(base, mem, x, top);
-    copy(base, mem, y, top + 3 * x.count);
-    Some(Made {
-        value: Value::Bag(Place { start: top, count }),
-        top: top + 3 * count,
-    })
+    let start = memory.append(x)?;
+    memory.append(y)?;
+    Some(Value::Bag(Place {
+        start,
+        count: x.count + y.count,
+    }))
 }

@@ -14,7 +14,7 @@ use Rattle.compare.specs.Compare.{Matches}
 use Rattle.bounds.proofs.Heights.{no_deeper}
 use Rattle.operators.specs.Kinds.{as_number, as_truth}
 use Rattle.operators.specs.Means.{Stopped, Means}
-use Rattle.operators.specs.declared.came.Came.{Came}
+use Rattle.operators.specs.Came.{Came}
 use Rattle.operators.specs.declared.came.Stop.{Stop}
 use Rattle.operators.specs.declared.came.Stop.TheVariants.{Wrong}
 use Rattle.operators.proofs.OfKind.{is_number, no_number, is_truth, no_truth}

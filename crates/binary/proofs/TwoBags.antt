@@ -8,13 +8,13 @@ use Rattle.values.specs.Making.{BagLies}
 use Rattle.values.specs.declared.value.Place.{Place}
 use Rattle.values.specs.declared.value.Value.{Value}
 use Rattle.values.specs.declared.value.Value.TheVariants.{Truth}
-use Rattle.values.specs.declared.value.Made.{Made}
+use Rattle.values.specs.Made.{Made}
 use Rattle.values.proofs.Frame.{kept_refl}
 use Rattle.bags.specs.Bags.{Joins, IsWithin}
 use Rattle.bags.proofs.Things.{as_many, join_many, bag_readable, few}
 use Rattle.operators.specs.Kinds.{as_bag}
 use Rattle.operators.specs.Means.{Means}
-use Rattle.operators.specs.declared.came.Came.{Came}
+use Rattle.operators.specs.Came.{Came}
 use Rattle.operators.specs.declared.came.Stop.{Stop}
 use Rattle.operators.specs.declared.came.Stop.TheVariants.{Tired, NoRoom}
 use Rattle.operators.proofs.OfKind.{is_bag, no_bag}

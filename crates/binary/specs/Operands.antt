@@ -9,7 +9,7 @@ use Rattle.values.specs.Memory.{Used, Under, Holds, Kept}
 use Rattle.values.specs.declared.value.Value.{Value}
 use Rattle.operators.specs.Means.{Means}
 use Rattle.operators.specs.Ready.{Fine}
-use Rattle.operators.specs.declared.came.Came.{Came}
+use Rattle.operators.specs.Came.{Came}
 use Rattle.operators.specs.declared.came.Stop.{Stop}
 
 -- two values that stand for data of the types that an operator asks for

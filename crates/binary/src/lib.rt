@@ -10,15 +10,16 @@ pub mod operate;
 pub mod pair_up;
 pub mod plain;
 
-ghost use Rattle.std.specs.Prelude.{◌++◌};
-ghost use Rattle.values.specs.Memory.{Space};
+ghost use Rattle.std.specs.Prelude.{◌≡◌};
+ghost use Rattle.values.specs.Lent.{all};
+ghost use Rattle.operators.specs.Came.{came_to};
 ghost use Rattle.operators.specs.Ready.{TwoReady, Twos};
 
-use crate::by::By;
+use crate::by::{By, Rule};
 use crate::operate::operate;
-use crate::pair_up::pair_up;
 use operators::came::{Came, Stop};
 use operators::op::Joint;
+use values::lent::Memory;
 use values::value::{Place, Value};
 
 // What two values come to. The query stands at `spot` of the request's bytes, and the names of a match in it, each after its length.
@@ -29,18 +30,23 @@ pub fn pair_of(
     bytes: &[u8],
     a: Value,
     b: Value,
-    base: &[u64],
-    mem: &mut [u64],
-    top: usize,
+    memory: &mut Memory,
     left: u64,
 ) -> Result<Came, Stop>
-    requires space { Space base.now mem.old top }
-    requires ready { TwoReady bytes.now spot deep op a b (base.now ++ mem.old) top }
-    ensures { Twos bytes.now spot deep op a b (base.now ++ mem.old) top left (base.now ++ mem.new) result }
+    requires { TwoReady bytes.now spot deep op a b (all memory.old) memory.old.top }
+    ensures frozen { memory.new.kept.now ≡ memory.old.kept.now }
+    ensures comes { Twos bytes.now spot deep op a b (all memory.old) memory.old.top left (all memory.new) (came_to memory.new.top result) }
 {
     match op {
-        Joint::Op(o) => operate(o, deep, bytes, a, b, base, mem, top, left),
-        Joint::Product => pair_up(By::All, deep, bytes, a, b, base, mem, top, left),
+        Joint::Op(o) => operate(o, deep, bytes, a, b, memory, left),
+        Joint::Product => {
+            let rule = Rule {
+                by: By::All,
+                bytes,
+                deep,
+            };
+            rule.pair_up(a, b, memory, left)
+        }
         Joint::Matched(i, j) => {
             let first = Place {
                 start: spot + 5,
@@ -50,17 +56,12 @@ pub fn pair_of(
                 start: spot + 9 + i,
                 count: j,
             };
-            pair_up(
-                By::Names(first, second),
-                deep,
+            let rule = Rule {
+                by: By::Names(first, second),
                 bytes,
-                a,
-                b,
-                base,
-                mem,
-                top,
-                left,
-            )
+                deep,
+            };
+            rule.pair_up(a, b, memory, left)
         }
     }
 }

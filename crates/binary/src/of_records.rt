@@ -1,12 +1,14 @@
 // Two records in one.
-ghost use Rattle.std.specs.Prelude.{◌++◌};
-ghost use Rattle.values.specs.Memory.{Space};
+ghost use Rattle.std.specs.Prelude.{◌≡◌};
+ghost use Rattle.values.specs.Lent.{all};
+ghost use Rattle.operators.specs.Came.{came_to};
 ghost use Rattle.binary.specs.Operands.{Operands, Does};
 
 use format::node::Binary;
 use operators::came::{Came, Stop};
 use operators::kinds::record;
 use records::join::joined;
+use values::lent::Memory;
 use values::value::Value;
 
 // All fields of two records, the second's where both have a name. The unit of work that was paid for it pays for its memory, since no record
@@ -16,23 +18,15 @@ pub fn join_two(
     a: Value,
     b: Value,
     deep: usize,
-    base: &[u64],
-    mem: &mut [u64],
-    top: usize,
+    memory: &mut Memory,
     left: u64,
 ) -> Result<Came, Stop>
-    requires space { Space base.now mem.old top }
-    requires ready { Operands Binary.JoinRecords bytes.now deep a b (base.now ++ mem.old) top }
-    ensures { Does Binary.JoinRecords bytes.now deep a b (base.now ++ mem.old) top left (base.now ++ mem.new) result }
+    requires { Operands Binary.JoinRecords bytes.now deep a b (all memory.old) memory.old.top }
+    ensures frozen { memory.new.kept.now ≡ memory.old.kept.now }
+    ensures does { Does Binary.JoinRecords bytes.now deep a b (all memory.old) memory.old.top left (all memory.new) (came_to memory.new.top result) }
 {
     let x = record(a)?;
     let y = record(b)?;
-    match joined(bytes, base, mem, x, y, top) {
-        Some(made) => Ok(Came {
-            value: made.value,
-            top: made.top,
-            left,
-        }),
-        None => Err(Stop::NoRoom),
-    }
+    let value = joined(bytes, memory, x, y).ok_or(Stop::NoRoom)?;
+    Ok(Came { value, left })
 }

@@ -1,11 +1,14 @@
 // Operators that make no memory: sameness, truths and numbers.
-ghost use Rattle.std.specs.Prelude.{◌≡◌, ◌+◌, ◌^◌, ◌<◌, ◌&&◌, ◌||◌, ◌++◌, length};
+ghost use Rattle.std.specs.Prelude.{ℕ};
+ghost use Rattle.values.specs.Lent.{all};
+ghost use Rattle.operators.specs.Came.{came_to};
 ghost use Rattle.binary.specs.Operands.{Does, DoesAnywhere};
 
 use compare::same;
 use format::node::Binary;
 use operators::came::{Came, Stop};
 use operators::kinds::{number, truth};
+use values::lent::Memory;
 use values::value::Value;
 
 // Whether two data are the same. They nest no deeper than `deep`.
@@ -14,82 +17,61 @@ pub fn equal(
     a: Value,
     b: Value,
     deep: usize,
-    base: &[u64],
-    mem: &[u64],
-    top: usize,
+    memory: &Memory,
     left: u64,
 ) -> Result<Came, Stop>
-    requires { length base.now + length mem.now < 2 ^ 64 }
-    ensures { Does Binary.Equal bytes.now deep a b (base.now ++ mem.now) top left (base.now ++ mem.now) result }
+    ensures { Does Binary.Equal bytes.now deep a b (all memory.now) memory.now.top left (all memory.now) (came_to memory.now.top result) }
 {
-    let found = same(bytes, base, mem, a, b, deep);
     Ok(Came {
-        value: Value::Truth(found),
-        top,
+        value: Value::Truth(same(bytes, &memory.row(), a, b, deep)),
         left,
     })
 }
 
-fn and(x: bool, y: bool) -> bool
-    ensures { result ≡ (x && y) }
-{
-    if x { y } else { false }
-}
-
-fn or(x: bool, y: bool) -> bool
-    ensures { result ≡ (x || y) }
-{
-    if x { true } else { y }
-}
-
 // Whether two truths are both true.
-pub fn both_true(a: Value, b: Value, top: usize, left: u64) -> Result<Came, Stop>
-    ensures { DoesAnywhere Binary.And a b top left result }
+pub fn both_true(a: Value, b: Value, left: u64) -> Result<Came, Stop>
+    ensures { (top : ℕ) → DoesAnywhere Binary.And a b top left (came_to top result) }
 {
     let x = truth(a)?;
     let y = truth(b)?;
     Ok(Came {
-        value: Value::Truth(and(x, y)),
-        top,
+        value: Value::Truth(x && y),
         left,
     })
 }
 
 // Whether one of two truths is true.
-pub fn one_true(a: Value, b: Value, top: usize, left: u64) -> Result<Came, Stop>
-    ensures { DoesAnywhere Binary.Or a b top left result }
+pub fn one_true(a: Value, b: Value, left: u64) -> Result<Came, Stop>
+    ensures { (top : ℕ) → DoesAnywhere Binary.Or a b top left (came_to top result) }
 {
     let x = truth(a)?;
     let y = truth(b)?;
     Ok(Came {
-        value: Value::Truth(or(x, y)),
-        top,
+        value: Value::Truth(x || y),
         left,
     })
 }
 
 // The sum of two numbers, as far as it fits a word.
-pub fn plus(a: Value, b: Value, top: usize, left: u64) -> Result<Came, Stop>
-    ensures { DoesAnywhere Binary.Plus a b top left result }
+pub fn plus(a: Value, b: Value, left: u64) -> Result<Came, Stop>
+    ensures { (top : ℕ) → DoesAnywhere Binary.Plus a b top left (came_to top result) }
 {
     let x = number(a)?;
     let y = number(b)?;
     Ok(Came {
         value: Value::Number(x.wrapping_add(y)),
-        top,
         left,
     })
 }
 
 // Whether the first of two numbers is less.
-pub fn less(a: Value, b: Value, top: usize, left: u64) -> Result<Came, Stop>
-    ensures { DoesAnywhere Binary.Less a b top left result }
+pub fn less(a: Value, b: Value, left: u64) -> Result<Came, Stop>
+    ensures { (top : ℕ) → DoesAnywhere Binary.Less a b top left (came_to top result) }
 {
     let x = number(a)?;
     let y = number(b)?;
     Ok(Came {
         value: Value::Truth(x < y),
-        top,
         left,
     })
 }

@@ -16,15 +16,8 @@ pub const LIMIT: usize = 8192;
 pub fn within_limit(bytes: &[u8], schema_at: usize, types: usize, query_at: usize) -> Option<usize>
     ensures { WithinLimit bytes.now schema_at types query_at result }
 {
-    if schema_at > bytes.len() || query_at > bytes.len() {
-        return None;
-    }
-    let Some(schema) = schema_parts(&bytes[schema_at..], types, LIMIT) else {
-        return None;
-    };
-    let Some(query) = query_parts(&bytes[query_at..], LIMIT - schema.parts) else {
-        return None;
-    };
+    let schema = schema_parts(bytes.get(schema_at..)?, types, LIMIT)?;
+    let query = query_parts(bytes.get(query_at..)?, LIMIT - schema.parts)?;
     Some(schema.parts + query.parts)
 }
 
@@ -32,10 +25,10 @@ pub fn within_limit(bytes: &[u8], schema_at: usize, types: usize, query_at: usiz
 pub fn in_order(bytes: &[u8], schema_at: usize, types: usize) -> bool
     ensures { InOrder bytes.now schema_at types result }
 {
-    if schema_at > bytes.len() {
-        return false;
+    match bytes.get(schema_at..) {
+        Some(schema) => sound_schema(schema, types, LIMIT),
+        None => false,
     }
-    sound_schema(&bytes[schema_at..], types, LIMIT)
 }
 
 // Whether the tables are of the schema.
@@ -48,14 +41,8 @@ pub fn of_schema(
 ) -> bool
     ensures { OfSchema bytes.now schema_at types tables_at tables result }
 {
-    if schema_at > bytes.len() || tables_at > bytes.len() {
-        return false;
+    match (bytes.get(tables_at..), bytes.get(schema_at..)) {
+        (Some(data), Some(schema)) => tables_are(data, tables, schema, types, LIMIT),
+        _ => false,
     }
-    tables_are(
-        &bytes[tables_at..],
-        tables,
-        &bytes[schema_at..],
-        types,
-        LIMIT,
-    )
 }

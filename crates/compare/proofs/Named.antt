@@ -1,14 +1,15 @@
 -- Two records, field by field.
-use Rattle.std.proofs.Common.{◌≡◌, ℕ, ◌+◌, ◌-◌, ◌*◌, ◌<◌, ◌≤◌, min, max, true, false, List, length, get_or, sym, refl, ap, ◌∙◌, subst, arith}
+use Rattle.std.proofs.Common.{◌≡◌, ℕ, ◌+◌, ◌-◌, ◌*◌, ◌<◌, ◌≤◌, min, max, true, false, List, get_or, sym, refl, ap, ◌∙◌, subst, arith}
 use Rattle.query.specs.Data.{Name, Data, Fields, no_field, field}
 use Rattle.ordering.specs.Order.{then_way, way, way_fields, way_num, way_text, on_no_field_way, on_field_way}
 use Rattle.ordering.proofs.Ways.{Numbers, less, even, over, numbers, num_before, num_alike, num_behind}
-use Rattle.values.specs.Memory.{Used, Under, Run, Spelled, Holds, HoldsFields, loaded, loaded_field}
+use Rattle.values.specs.Memory.{Used, Spelled, Holds, HoldsFields, loaded, loaded_field}
 use Rattle.values.specs.Height.{height, height_fields}
 use Rattle.values.specs.declared.value.Place.{Place}
 use Rattle.values.specs.declared.value.Field.{Field}
-use Rattle.compare.specs.declared.Order.{Order}
-use Rattle.compare.specs.Compare.{stands, is_alike, OrdersTexts, Orders, RecordsLie, OrdersRecords}
+use Rattle.std.specs.declared.cmp.Ordering.{Ordering}
+use Rattle.std.specs.Ordering.{is_ne}
+use Rattle.compare.specs.Compare.{stands, OrdersTexts, Orders, RecordsLie, OrdersRecords}
 use Rattle.compare.proofs.Steps.{stops, goes_on}
 
 -- what is still to come of two records, after so many fields of each that were alike
@@ -86,7 +87,7 @@ unfolding loaded_field
 held_as bs m u f d at e h = subst (λ (g : Field). Holds bs m u d g.value) (sym e) h
 
 module _ (bs m : List ℕ) (p q : Place) (depth i : ℕ) (f : RecordsFrom bs m p q depth i) where
-  module _ (x y : Field) (named : Order) (lp : i < p.count) (lq : i < q.count) (ex : x ≡ loaded_field m (p.start + 5 * i)) (ey : y ≡ loaded_field m (q.start + 5 * i)) (t : OrdersTexts bs x.name y.name named) where
+  module _ (x y : Field) (named : Ordering) (lp : i < p.count) (lq : i < q.count) (ex : x ≡ loaded_field m (p.start + 5 * i)) (ey : y ≡ loaded_field m (q.start + 5 * i)) (t : OrdersTexts bs x.name y.name named) where
     module _ (u : Used) (ds es : Fields) (l : RecordsLie bs m p q depth u ds es) where
       w : Rest bs m p q depth i u ds es
       w = f.rest ds es u l
@@ -103,10 +104,10 @@ module _ (bs m : List ℕ) (p q : Place) (depth i : ℕ) (f : RecordsFrom bs m p
       names : stands named ≡ way_text a.name b.name
       names = t.is a.name b.name (spelled_as bs m x a.name (p.start + 5 * i) ex a.spelled) (spelled_as bs m y b.name (q.start + 5 * i) ey b.spelled)
 
-    pub names_stop : false ≡ is_alike named → OrdersRecords bs m p q depth named
+    pub names_stop : true ≡ is_ne named → OrdersRecords bs m p q depth named
     names_stop n = record { is = λ ds es u l. stops named _ _ (names u ds es l) n ∙ sym (step u ds es l) }
 
-    module _ (o : Order) (alike-names : true ≡ is_alike named) (s : Orders bs m x.value y.value depth o) where
+    module _ (o : Ordering) (alike-names : false ≡ is_ne named) (s : Orders bs m x.value y.value depth o) where
       item : (u : Used) (ds es : Fields) (l : RecordsLie bs m p q depth u ds es) → stands o ≡ way (a u ds es l).item (b u ds es l).item
       item u ds es l =
           s.is (a u ds es l).item (b u ds es l).item u
@@ -118,10 +119,10 @@ module _ (bs m : List ℕ) (p q : Place) (depth i : ℕ) (f : RecordsFrom bs m p
       onward : (u : Used) (ds es : Fields) (l : RecordsLie bs m p q depth u ds es) → way_fields ds es ≡ then_way (way (a u ds es l).item (b u ds es l).item) (way_fields (a u ds es l).others (b u ds es l).others)
       onward u ds es l = step u ds es l ∙ goes_on named _ _ (names u ds es l) alike-names
 
-      pub fields_stop : false ≡ is_alike o → OrdersRecords bs m p q depth o
+      pub fields_stop : true ≡ is_ne o → OrdersRecords bs m p q depth o
       fields_stop n = record { is = λ ds es u l. stops o _ _ (item u ds es l) n ∙ sym (onward u ds es l) }
 
-      pub fields_go_on : true ≡ is_alike o → RecordsFrom bs m p q depth (i + 1)
+      pub fields_go_on : false ≡ is_ne o → RecordsFrom bs m p q depth (i + 1)
       fields_go_on n = record {
         rest = λ ds es u l. record {
           xs = (a u ds es l).others;
@@ -148,16 +149,5 @@ module _ (bs m : List ℕ) (p q : Place) (depth i : ℕ) (f : RecordsFrom bs m p
             let x = first bs m u xs (p.start + 5 * i) (p.count - i) (omega arith) h in
             rw (num_behind c d l) (field_ways xs (field x.name x.item x.others) ys no_field x.is (ended bs m u ys (q.start + 5 * i) (q.count - i) (omega arith) k))
 
-    pub records_end : (o : Order) → stands o ≡ way_num p.count q.count → OrdersRecords bs m p q depth o
+    pub records_end : (o : Ordering) → stands o ≡ way_num p.count q.count → OrdersRecords bs m p q depth o
     records_end o s = record { is = λ ds es u l. let w = f.rest ds es u l in s ∙ sym (w.same ∙ done u w.xs w.ys w.lie_xs w.lie_ys) }
-
--- no record goes past the end of memory
-past : (u : Used) (start count long : ℕ) → 0 < count → long < start + 5 * count → Run u start (5 * count) → Under u long → ⊥
-past u start count long z l r b =
-    let k : start + (5 * count - 1) < long = b.low (start + (5 * count - 1)) (r.used (start + (5 * count - 1)) (omega arith) (omega arith)) in omega arith
-
-pub records_past_p : (bs m : List ℕ) (p q : Place) (depth : ℕ) (o : Order) → 0 < p.count → length m < p.start + 5 * p.count → OrdersRecords bs m p q depth o
-records_past_p bs m p q depth o z h = record { is = λ ds es u l. absurd (past u p.start p.count (length m) z h l.run_p l.low) }
-
-pub records_past_q : (bs m : List ℕ) (p q : Place) (depth : ℕ) (o : Order) → 0 < q.count → length m < q.start + 5 * q.count → OrdersRecords bs m p q depth o
-records_past_q bs m p q depth o z h = record { is = λ ds es u l. absurd (past u q.start q.count (length m) z h l.run_q l.low) }

@@ -1,14 +1,15 @@
 -- Two bags, thing by thing.
-use Rattle.std.proofs.Common.{◌≡◌, ℕ, ◌+◌, ◌-◌, ◌*◌, ◌<◌, ◌≤◌, min, max, true, false, List, length, sym, refl, ap, ◌∙◌, subst, arith}
+use Rattle.std.proofs.Common.{◌≡◌, ℕ, ◌+◌, ◌-◌, ◌*◌, ◌<◌, ◌≤◌, min, max, true, false, List, sym, refl, ap, ◌∙◌, subst, arith}
 use Rattle.query.specs.Data.{Data, Datas, none, more}
 use Rattle.ordering.specs.Order.{then_way, way, way_all, way_num, on_none_way, on_more_way}
 use Rattle.ordering.proofs.Ways.{Numbers, less, even, over, numbers, num_before, num_alike, num_behind}
-use Rattle.values.specs.Memory.{Used, Under, Run, Holds, HoldsAll, loaded}
+use Rattle.values.specs.Memory.{Used, Holds, HoldsAll, loaded}
 use Rattle.values.specs.Height.{height, height_all}
 use Rattle.values.specs.declared.value.Place.{Place}
 use Rattle.values.specs.declared.value.Value.{Value}
-use Rattle.compare.specs.declared.Order.{Order}
-use Rattle.compare.specs.Compare.{stands, is_alike, Orders, BagsLie, OrdersBags}
+use Rattle.std.specs.declared.cmp.Ordering.{Ordering}
+use Rattle.std.specs.Ordering.{is_ne}
+use Rattle.compare.specs.Compare.{stands, Orders, BagsLie, OrdersBags}
 use Rattle.compare.proofs.Steps.{stops, goes_on}
 
 -- what is still to come of two bags, after so many things of each that were alike
@@ -75,7 +76,7 @@ unfolding way_all on_more_way
 both_more ds xs es ys d e p q = all_ways ds (more d xs) es (more e ys) p q
 
 module _ (bs m : List ℕ) (p q : Place) (depth i : ℕ) (f : BagsFrom bs m p q depth i) where
-  module _ (x y : Value) (o : Order) (lp : i < p.count) (lq : i < q.count) (ex : x ≡ loaded m (p.start + 3 * i)) (ey : y ≡ loaded m (q.start + 3 * i)) (s : Orders bs m x y depth o) where
+  module _ (x y : Value) (o : Ordering) (lp : i < p.count) (lq : i < q.count) (ex : x ≡ loaded m (p.start + 3 * i)) (ey : y ≡ loaded m (q.start + 3 * i)) (s : Orders bs m x y depth o) where
     module _ (u : Used) (ds es : Datas) (l : BagsLie bs m p q depth u ds es) where
       w : Rest bs m p q depth i u ds es
       w = f.rest ds es u l
@@ -97,10 +98,10 @@ module _ (bs m : List ℕ) (p q : Place) (depth i : ℕ) (f : BagsFrom bs m p q 
           l.low
           (flat_item w.xs a.others a.item depth a.is w.flat)
 
-    pub bags_stop : false ≡ is_alike o → OrdersBags bs m p q depth o
+    pub bags_stop : true ≡ is_ne o → OrdersBags bs m p q depth o
     bags_stop n = record { is = λ ds es u l. stops o _ _ (item u ds es l) n ∙ sym (step u ds es l) }
 
-    pub bags_go_on : true ≡ is_alike o → BagsFrom bs m p q depth (i + 1)
+    pub bags_go_on : false ≡ is_ne o → BagsFrom bs m p q depth (i + 1)
     bags_go_on n = record {
       rest = λ ds es u l. record {
         xs = (a u ds es l).others;
@@ -127,16 +128,5 @@ module _ (bs m : List ℕ) (p q : Place) (depth i : ℕ) (f : BagsFrom bs m p q 
             let x = first bs m u xs (p.start + 3 * i) (p.count - i) (omega arith) h in
             rw (num_behind c d l) (all_ways xs (more x.item x.others) ys none x.is (ended bs m u ys (q.start + 3 * i) (q.count - i) (omega arith) k))
 
-    pub bags_end : (o : Order) → stands o ≡ way_num p.count q.count → OrdersBags bs m p q depth o
+    pub bags_end : (o : Ordering) → stands o ≡ way_num p.count q.count → OrdersBags bs m p q depth o
     bags_end o s = record { is = λ ds es u l. let w = f.rest ds es u l in s ∙ sym (w.same ∙ done u w.xs w.ys w.lie_xs w.lie_ys) }
-
--- no bag goes past the end of memory
-past : (u : Used) (start count long : ℕ) → 0 < count → long < start + 3 * count → Run u start (3 * count) → Under u long → ⊥
-past u start count long z l r b =
-    let k : start + (3 * count - 1) < long = b.low (start + (3 * count - 1)) (r.used (start + (3 * count - 1)) (omega arith) (omega arith)) in omega arith
-
-pub bags_past_p : (bs m : List ℕ) (p q : Place) (depth : ℕ) (o : Order) → 0 < p.count → length m < p.start + 3 * p.count → OrdersBags bs m p q depth o
-bags_past_p bs m p q depth o z h = record { is = λ ds es u l. absurd (past u p.start p.count (length m) z h l.run_p l.low) }
-
-pub bags_past_q : (bs m : List ℕ) (p q : Place) (depth : ℕ) (o : Order) → 0 < q.count → length m < q.start + 3 * q.count → OrdersBags bs m p q depth o
-bags_past_q bs m p q depth o z h = record { is = λ ds es u l. absurd (past u q.start q.count (length m) z h l.run_q l.low) }

@@ -2,12 +2,13 @@
 use Rattle.std.specs.Prelude.{◌≡◌, ℕ, ◌<◌, Bool, false, List}
 use Rattle.query.specs.Promise.{Asked, Answer as Said, refused, turned, place, RightAnswer}
 use Rattle.format.specs.Reading.{Asks}
+use Rattle.refusals.specs.Numbers.{number_of}
 use Rattle.desk.specs.declared.answer.Answer.{Answer}
 use Rattle.desk.specs.declared.answer.Answer.TheVariants.{Refused}
 
 -- the answer that each case of the enum stands for
 abbrev pub stands_for : Answer → Said
-stands_for (Refused n p) = refused n p
+stands_for (Refused why p) = refused (number_of why) p
 
 -- what a desk can do, by the kind of request: nothing yet
 abbrev pub nothing : ℕ → Bool

@@ -1,7 +1,8 @@
 // What the desk answers.
+use refusals::Refusal;
 
 #[derive(Clone, Copy)]
 pub enum Answer {
-    // a refusal by its number, and its place in the request's bytes
-    Refused(u8, usize),
+    // a refusal, and its place in the request's bytes
+    Refused(Refusal, usize),
 }

@@ -9,7 +9,7 @@ use Rattle.values.specs.declared.value.Value.{Value}
 use Rattle.values.specs.declared.value.Value.TheVariants.{Bag}
 use Rattle.values.proofs.Frame.{kept_agree, holds_kept}
 use Rattle.operators.specs.Means.{CameTo, Stopped, Means}
-use Rattle.operators.specs.declared.came.Came.{Came}
+use Rattle.operators.specs.Came.{Came}
 use Rattle.operators.specs.declared.came.Stop.{Stop}
 use Rattle.operators.specs.declared.came.Stop.TheVariants.{Tired, NoRoom, Wrong}
 use Rattle.operators.proofs.Steps.{after_came}

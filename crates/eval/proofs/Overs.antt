@@ -11,7 +11,7 @@ use Rattle.values.specs.declared.value.Value.{Value}
 use Rattle.values.proofs.Frame.{kept_agree, holds_kept}
 use Rattle.guide.specs.Guide.{first_part, last_part}
 use Rattle.operators.specs.Means.{CameTo, Means}
-use Rattle.operators.specs.declared.came.Came.{Came}
+use Rattle.operators.specs.Came.{Came}
 use Rattle.operators.specs.declared.came.Stop.{Stop}
 use Rattle.operators.proofs.Steps.{means_stop, means_then}
 use Rattle.eval.specs.Shaped.{Shaped, over_query, place_in}

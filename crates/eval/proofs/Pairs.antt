@@ -12,7 +12,7 @@ use Rattle.guide.specs.Guide.{first_part, last_part}
 use Rattle.operators.specs.Applied.{Made2, op2, all, where_same, two_query, two_got, two_type, IsJoint, price_of}
 use Rattle.operators.specs.Means.{CameTo, Means}
 use Rattle.operators.specs.Ready.{TwoReady, Twos}
-use Rattle.operators.specs.declared.came.Came.{Came}
+use Rattle.operators.specs.Came.{Came}
 use Rattle.operators.specs.declared.came.Stop.{Stop}
 use Rattle.operators.specs.declared.came.Stop.TheVariants.{Tired}
 use Rattle.operators.specs.declared.op.Joint.{Joint}

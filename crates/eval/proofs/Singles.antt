@@ -8,7 +8,7 @@ use Rattle.guide.specs.Guide.{last_part}
 use Rattle.operators.specs.Applied.{Made1, op1, on_left, on_right, one_query, one_got, one_type}
 use Rattle.operators.specs.Means.{CameTo, Means}
 use Rattle.operators.specs.Ready.{OneReady, Ones}
-use Rattle.operators.specs.declared.came.Came.{Came}
+use Rattle.operators.specs.Came.{Came}
 use Rattle.operators.specs.declared.came.Stop.{Stop}
 use Rattle.operators.specs.declared.came.Stop.TheVariants.{Tired}
 use Rattle.operators.specs.declared.op.Single.{Single}

@@ -1,2 +1,3 @@
 pub mod Shaped
 pub mod Ready
+pub mod Set

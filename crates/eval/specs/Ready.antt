@@ -14,7 +14,7 @@ use Rattle.guide.specs.Guide.{Guided}
 use Rattle.literals.specs.Numbered.{Numbered}
 use Rattle.operators.specs.Means.{Means}
 use Rattle.operators.specs.Ready.{Fine}
-use Rattle.operators.specs.declared.came.Came.{Came}
+use Rattle.operators.specs.Came.{Came}
 use Rattle.operators.specs.declared.came.Stop.{Stop}
 use Rattle.eval.specs.Shaped.{IsLeaf}
 use Rattle.eval.specs.declared.scene.Scene.{Scene}

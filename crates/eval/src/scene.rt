@@ -9,12 +9,11 @@ pub struct Scene {
     pub deep: usize,
 }
 
-// What is lent and only read: the request's bytes, the guide to the query, the numbers of what the query writes out, and the memory that
-// holds the tables.
+// That, and what is only read besides memory: the request's bytes, the guide to the query, and the numbers of what the query writes out.
 #[derive(Clone, Copy)]
 pub struct Lent<'a> {
+    pub scene: Scene,
     pub bytes: &'a [u8],
     pub guide: &'a [u32],
     pub literals: &'a [u32],
-    pub base: &'a [u64],
 }

@@ -1,9 +1,12 @@
 // What a query comes to.
-ghost use Rattle.std.specs.Prelude.{◌≡◌, ℕ, ◌+◌, ◌<◌, ◌≤◌, ◌++◌};
-ghost use Rattle.values.specs.Memory.{Kept, Space};
-ghost use Rattle.eval.specs.Ready.{setting, Ready, Answers, EachReady, EachAnswers, KeepAnswers, LeafReady, LeafHolds};
+ghost use Rattle.std.specs.Prelude.{◌≡◌};
+ghost use Rattle.values.specs.Memory.{Kept};
+ghost use Rattle.values.specs.Lent.{all};
+ghost use Rattle.operators.specs.Came.{came_to};
+ghost use Rattle.eval.specs.Ready.{Ready, Answers, EachReady, EachAnswers, KeepAnswers, LeafReady, LeafHolds};
+ghost use Rattle.eval.specs.Set.{set};
 
-use crate::scene::{Lent, Scene};
+use crate::scene::Lent;
 use crate::shape::{Leaf, Over, Shape, is_empty, place_of, shape_of, side_of};
 use binary::pair_of;
 use guide::node;
@@ -11,55 +14,46 @@ use operators::came::{Came, Stop};
 use operators::kinds::truth;
 use operators::op::price;
 use unary::single_of;
-use values::memory::{load, size, store};
+use values::lent::Memory;
 use values::value::{Place, Value};
 
 // What is at hand: a table, what is looked at, what goes along, or what the query writes out, which was loaded before.
 fn leaf_of(
-    scene: Scene,
-    lent: Lent,
+    lent: &Lent,
     query: &[u8],
     at: usize,
     leaf: Leaf,
     env: Value,
     it: Value,
-    mem: &[u64],
-    top: usize,
+    memory: &Memory,
 ) -> Value
-    requires space { Space lent.base.now mem.now top }
-    requires ready { LeafReady (setting scene lent.bytes.now lent.guide.now lent.literals.now) query.now at leaf env it (lent.base.now ++ mem.now) top }
-    ensures { LeafHolds (setting scene lent.entry.bytes.now lent.entry.guide.now lent.entry.literals.now) query.now at leaf env it (lent.entry.base.now ++ mem.now) top result }
+    requires { LeafReady (set lent.now) query.now at leaf env it (all memory.now) memory.now.top }
+    ensures { LeafHolds (set lent.now) query.now at leaf env it (all memory.now) memory.now.top result }
 {
     match leaf {
-        Leaf::Table(n) => load(lent.base, mem, scene.tables + 3 * n),
+        Leaf::Table(n) => memory.nth(lent.scene.tables, n),
         Leaf::It => it,
         Leaf::Env => env,
-        Leaf::Just => load(
-            lent.base,
-            mem,
-            scene.literals + 3 * (lent.literals[at] as usize),
-        ),
+        Leaf::Just => memory.nth(lent.scene.literals, lent.literals[at] as usize),
     }
 }
 
 // The query's parts are worked out from left to right, but where the first is asked of what the second comes to, the second comes first.
 // Of the request's bytes, `query` is the part that begins with the query, whose place is `at`, counted from the beginning of the whole query.
-#[cycle(each_of_keep_of_work_out)]
+#[cycle(work_out)]
 pub fn work_out(
-    scene: Scene,
-    lent: Lent,
+    lent: &Lent,
     query: &[u8],
     at: usize,
     env: Value,
     it: Value,
-    mem: &mut [u64],
-    top: usize,
+    memory: &mut Memory,
     left: u64,
 ) -> Result<Came, Stop>
-    requires space { Space lent.base.now mem.old top }
-    requires ready { Ready (setting scene lent.bytes.now lent.guide.now lent.literals.now) query.now at env it (lent.base.now ++ mem.old) top }
-    ensures kept { Kept top (lent.entry.base.now ++ mem.old) (lent.entry.base.now ++ mem.new) }
-    ensures means { Answers (setting scene lent.entry.bytes.now lent.entry.guide.now lent.entry.literals.now) query.now at env it (lent.entry.base.now ++ mem.old) top left (lent.entry.base.now ++ mem.new) result }
+    requires { Ready (set lent.now) query.now at env it (all memory.old) memory.old.top }
+    ensures frozen { memory.new.kept.now ≡ memory.old.kept.now }
+    ensures kept { Kept memory.old.top (all memory.old) (all memory.new) }
+    ensures means { Answers (set lent.now) query.now at env it (all memory.old) memory.old.top left (all memory.new) (came_to memory.new.top result) }
 {
     let last = lent.guide[at] as usize;
     let Some(visit) = node(query, last) else {
@@ -68,34 +62,21 @@ pub fn work_out(
     let first = visit.first;
     match shape_of(visit.node) {
         Shape::Leaf(leaf) => Ok(Came {
-            value: leaf_of(scene, lent, query, at, leaf, env, it, mem, top),
-            top,
+            value: leaf_of(lent, query, at, leaf, env, it, memory),
             left,
         }),
         Shape::Single(op) => {
             if left == 0 {
                 return Err(Stop::Tired);
             }
-            let only = work_out(
-                scene,
-                lent,
-                &query[last..],
-                at + last,
-                env,
-                it,
-                mem,
-                top,
-                left - 1,
-            )?;
+            let only = work_out(lent, &query[last..], at + last, env, it, memory, left - 1)?;
             single_of(
                 op,
-                scene.query_at + at,
-                scene.deep,
+                lent.scene.query_at + at,
+                lent.scene.deep,
                 lent.bytes,
                 only.value,
-                lent.base,
-                mem,
-                only.top,
+                memory,
                 only.left,
             )
         }
@@ -105,124 +86,72 @@ pub fn work_out(
                 return Err(Stop::Tired);
             }
             let one = work_out(
-                scene,
                 lent,
                 &query[first..],
                 at + first,
                 env,
                 it,
-                mem,
-                top,
+                memory,
                 left - due,
             )?;
-            let other = work_out(
-                scene,
-                lent,
-                &query[last..],
-                at + last,
-                env,
-                it,
-                mem,
-                one.top,
-                one.left,
-            )?;
+            let other = work_out(lent, &query[last..], at + last, env, it, memory, one.left)?;
             pair_of(
                 op,
-                scene.query_at + at,
-                scene.deep,
+                lent.scene.query_at + at,
+                lent.scene.deep,
                 lent.bytes,
                 one.value,
                 other.value,
-                lent.base,
-                mem,
-                other.top,
+                memory,
                 other.left,
             )
         }
         Shape::Over(over) => {
-            let inner = work_out(
-                scene,
-                lent,
-                &query[last..],
-                at + last,
-                env,
-                it,
-                mem,
-                top,
-                left,
-            )?;
+            let inner = work_out(lent, &query[last..], at + last, env, it, memory, left)?;
             let part = &query[first..];
             match over {
                 Over::Each => each_of(
-                    scene,
                     lent,
                     part,
                     at + first,
                     env,
                     place_of(inner.value),
-                    mem,
-                    inner.top,
+                    memory,
                     inner.left,
                 ),
                 Over::Keep => keep_of(
-                    scene,
                     lent,
                     part,
                     at + first,
                     env,
                     place_of(inner.value),
-                    mem,
-                    inner.top,
+                    memory,
                     inner.left,
                 ),
                 Over::Then => work_out(
-                    scene,
                     lent,
                     part,
                     at + first,
                     env,
                     inner.value,
-                    mem,
-                    inner.top,
+                    memory,
                     inner.left,
                 ),
                 Over::WithEnv => work_out(
-                    scene,
                     lent,
                     part,
                     at + first,
                     inner.value,
                     it,
-                    mem,
-                    inner.top,
+                    memory,
                     inner.left,
                 ),
             }
         }
         Shape::Default => {
-            let given = work_out(
-                scene,
-                lent,
-                &query[first..],
-                at + first,
-                env,
-                it,
-                mem,
-                top,
-                left,
-            )?;
+            let given = work_out(lent, &query[first..], at + first, env, it, memory, left)?;
             if is_empty(given.value) {
-                work_out(
-                    scene,
-                    lent,
-                    &query[last..],
-                    at + last,
-                    env,
-                    it,
-                    mem,
-                    given.top,
-                    given.left,
-                )
+                work_out(lent, &query[last..], at + last, env, it, memory, given.left)
             } else {
                 Ok(given)
             }
@@ -233,16 +162,14 @@ pub fn work_out(
             }
             let side = side_of(it, first, last);
             let part = side.part;
-            let there = load(lent.base, mem, side.slot);
+            let there = memory.load(side.slot);
             work_out(
-                scene,
                 lent,
                 &query[part..],
                 at + part,
                 env,
                 there,
-                mem,
-                top,
+                memory,
                 left - 1,
             )
         }
@@ -250,89 +177,81 @@ pub fn work_out(
 }
 
 // What a query comes to for each of a bag. One for each is paid at once, since the slots are reserved at once.
-#[cycle(each_of_keep_of_work_out)]
+#[cycle(work_out)]
 fn each_of(
-    scene: Scene,
-    lent: Lent,
+    lent: &Lent,
     query: &[u8],
     at: usize,
     env: Value,
     place: Place,
-    mem: &mut [u64],
-    top: usize,
+    memory: &mut Memory,
     budget: u64,
 ) -> Result<Came, Stop>
-    requires space { Space lent.base.now mem.old top }
-    requires ready { EachReady (setting scene lent.bytes.now lent.guide.now lent.literals.now) query.now at env place (lent.base.now ++ mem.old) top }
-    ensures kept { Kept top (lent.entry.base.now ++ mem.old) (lent.entry.base.now ++ mem.new) }
-    ensures means { EachAnswers (setting scene lent.entry.bytes.now lent.entry.guide.now lent.entry.literals.now) query.now at env place (lent.entry.base.now ++ mem.old) top budget (lent.entry.base.now ++ mem.new) result }
+    requires { EachReady (set lent.now) query.now at env place (all memory.old) memory.old.top }
+    ensures frozen { memory.new.kept.now ≡ memory.old.kept.now }
+    ensures kept { Kept memory.old.top (all memory.old) (all memory.new) }
+    ensures means { EachAnswers (set lent.now) query.now at env place (all memory.old) memory.old.top budget (all memory.new) (came_to memory.new.top result) }
 {
     if budget < place.count as u64 {
         return Err(Stop::Tired);
     }
-    if (size(lent.base, mem) - top) / 3 < place.count {
+    let Some(start) = memory.reserve::<Value>(place.count) else {
         return Err(Stop::NoRoom);
-    }
-    let mut high = top + 3 * place.count;
+    };
     let mut left = budget - place.count as u64;
     for i in 0..place.count {
-        let x = load(lent.base, mem, place.start + 3 * i);
-        let came = work_out(scene, lent, query, at, env, x, mem, high, left)?;
-        store(lent.base, mem, top + 3 * i, came.value);
-        high = came.top;
+        let x = memory.nth(place.start, i);
+        let came = work_out(lent, query, at, env, x, memory, left)?;
+        memory.set_nth(start, i, came.value);
         left = came.left;
     }
     Ok(Came {
         value: Value::Bag(Place {
-            start: top,
+            start,
             count: place.count,
         }),
-        top: high,
         left,
     })
 }
 
 // Those of a bag for which a query is true. What was made to find that out is given up.
-#[cycle(each_of_keep_of_work_out)]
+#[cycle(work_out)]
 fn keep_of(
-    scene: Scene,
-    lent: Lent,
+    lent: &Lent,
     query: &[u8],
     at: usize,
     env: Value,
     place: Place,
-    mem: &mut [u64],
-    top: usize,
+    memory: &mut Memory,
     budget: u64,
 ) -> Result<Came, Stop>
-    requires space { Space lent.base.now mem.old top }
-    requires ready { EachReady (setting scene lent.bytes.now lent.guide.now lent.literals.now) query.now at env place (lent.base.now ++ mem.old) top }
-    ensures kept { Kept top (lent.entry.base.now ++ mem.old) (lent.entry.base.now ++ mem.new) }
-    ensures means { KeepAnswers (setting scene lent.entry.bytes.now lent.entry.guide.now lent.entry.literals.now) query.now at env place (lent.entry.base.now ++ mem.old) top budget (lent.entry.base.now ++ mem.new) result }
+    requires { EachReady (set lent.now) query.now at env place (all memory.old) memory.old.top }
+    ensures frozen { memory.new.kept.now ≡ memory.old.kept.now }
+    ensures kept { Kept memory.old.top (all memory.old) (all memory.new) }
+    ensures means { KeepAnswers (set lent.now) query.now at env place (all memory.old) memory.old.top budget (all memory.new) (came_to memory.new.top result) }
 {
-    let mut high = top;
+    let start = memory.top;
     let mut count = 0;
     let mut left = budget;
     for i in 0..place.count {
         if left == 0 {
             return Err(Stop::Tired);
         }
-        let x = load(lent.base, mem, place.start + 3 * i);
-        let came = work_out(scene, lent, query, at, env, x, mem, high, left - 1)?;
+        let x = memory.nth(place.start, i);
+        let high = memory.top;
+        let came = work_out(lent, query, at, env, x, memory, left - 1)?;
         let yes = truth(came.value)?;
         left = came.left;
+        memory.release(high);
         if yes {
-            if size(lent.base, mem) - high < 3 {
+            let Some(_slot) = memory.push(x) else {
                 return Err(Stop::NoRoom);
-            }
-            store(lent.base, mem, high, x);
-            high += 3;
+            };
             count += 1;
         }
     }
     Ok(Came {
-        value: Value::Bag(Place { start: top, count }),
-        top: high,
+        value: Value::Bag(Place { start, count }),
         left,
     })
 }

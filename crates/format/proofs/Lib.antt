@@ -1,3 +1,6 @@
+pub mod Numbers
+pub mod Heads
+pub mod Moved
 pub mod Spans
 pub mod Names
 pub mod Pairs

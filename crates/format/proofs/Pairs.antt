@@ -1,7 +1,7 @@
 -- One thing and then another, from what was read of each.
 use Rattle.std.proofs.Common.{◌≡◌, ℕ, ◌+◌, List, length, sym, ap, ◌∙◌, subst, length-take-le}
 use Rattle.format.specs.Coding.{Coding, both_of, Inhabited}
-use Rattle.format.specs.Reading.{Begins, Stuck, OneWay}
+use Rattle.format.specs.Reading.{Begins, ReadAs, Stuck, OneWay}
 use Rattle.format.specs.Lists.{from, from_drop}
 use Rattle.format.specs.Codings.{begins_both, stuck_first, stuck_second, both_splits}
 
@@ -18,3 +18,9 @@ module _ (A B : Coding) where
 
   pub pair_short : (xs : List ℕ) (p : ℕ) → Inhabited B → Stuck A xs p → Stuck (both_of A B) xs p
   pair_short xs p some t = stuck_first (both_of A B) A (λ v. B) (both_splits A B) xs p (λ a f. (some.thing, some.fits)) t
+
+  pub pair_told : (P : A.T → Type 0) (Q : B.T → Type 0) (xs : List ℕ) (e f : ℕ) → ReadAs A xs e P → ReadAs B (from e xs) f Q → ReadAs (both_of A B) xs (e + f) (λ p. P p.0 × Q p.1)
+  pair_told P Q xs e f a b = record { thing = (a.thing, b.thing); begins = pair_read xs e f a.thing b.thing a.begins b.begins; says = (a.says, b.says) }
+
+  pub pair_stuck : (P : A.T → Type 0) (xs : List ℕ) (e p : ℕ) → OneWay A → ReadAs A xs e P → Stuck B (from e xs) p → Stuck (both_of A B) xs (e + p)
+  pair_stuck P xs e p way a t = pair_cut xs e p a.thing way a.begins t

@@ -1,12 +1,16 @@
 -- Where the parts of a request stand.
-use Rattle.std.proofs.Common.{◌≡◌, ℕ, ◌+◌, ◌≤◌, List, ◌++◌, length, drop, sym, refl, ap, ◌∙◌, subst, arith, length-append, length-drop, drop-drop}
+use Rattle.std.proofs.Common.{◌≡◌, ℕ, ◌+◌, ◌<◌, ◌≤◌, List, ◌++◌, length, drop, sym, refl, ap, ◌∙◌, subst, Fits, arith, length-append, length-drop, drop-drop}
 use Rattle.std.proofs.lemmas.List.{append_assoc}
 use Rattle.format.specs.Coding.{Coding, le, writes, many, counted}
-use Rattle.format.specs.Reading.{Begins}
+use Rattle.std.specs.Int.{w8}
+use Rattle.std.specs.Prelude.{slice_index}
+use Rattle.format.specs.Reading.{Begins, ReadAs}
 use Rattle.query.specs.Query.{Query, Tables}
 use Rattle.query.specs.Types.{Schema}
-use Rattle.format.specs.Wire.{types, data_of, queries}
-use Rattle.format.specs.Nodes.{Stands, AsksFor, PlansFor}
+use Rattle.format.specs.Wire.{types, data_of, queries, requests}
+use Rattle.format.specs.Nodes.{ask_load, plan_load, Stands, AsksFor, PlansFor, TellsRequest}
+use Rattle.format.specs.RequestLaws.{request_begins}
+use Rattle.format.specs.declared.node.Request.TheVariants.{ToAsk, ToPlan}
 use Rattle.format.specs.declared.node.Ask.{Ask}
 use Rattle.format.specs.declared.node.Plan.{Plan}
 use Rattle.format.specs.Lists.{split_at, after_of, from, from_drop}
@@ -42,22 +46,40 @@ counted_stands S xs n e ts b =
     let k = length-append (le 4 (length ts)) (writes S ts) in
     stands_counted S xs n ts (omega (arith, b.within, l, k, length_le 4 (length ts))) (stands_front (counted S) xs e ts b)
 
--- the places of a request to ask, and of one to plan, counted from what follows the tag, and from the tag
-pub asks_on : (xs : List ℕ) (a b : Ask) (ss : Schema) (ts : Tables) (q : Query) (w : ℕ) → 1 ≤ length xs → b.types ≡ a.types → b.tables ≡ a.tables → b.work ≡ a.work → b.tables_at ≡ 1 + a.tables_at → b.query_at ≡ 1 + a.query_at → AsksFor (from 1 xs) 0 a ss ts q w → AsksFor xs 1 b ss ts q w
-asks_on xs a b ss ts q w l e f g h i r =
+-- the places of a request to ask, and of one to plan, counted from the tag
+abbrev pub ask_moved : Ask → Ask
+ask_moved a = record { types = a.types; tables_at = 1 + a.tables_at; tables = a.tables; query_at = 1 + a.query_at; work = a.work }
+
+abbrev pub plan_moved : Plan → Plan
+plan_moved p = record { types = p.types; query_at = 1 + p.query_at }
+
+asks_on : (xs : List ℕ) (a : Ask) (ss : Schema) (ts : Tables) (q : Query) (w : ℕ) → 1 ≤ length xs → AsksFor (from 1 xs) 0 a ss ts q w → AsksFor xs 1 (ask_moved a) ss ts q w
+asks_on xs a ss ts q w l r =
     record {
-      many_types = r.many_types ∙ sym e;
-      schema = subst (λ (v : ℕ). Stands (many types v) xs 5 ss) (sym e) (stands_on (many types a.types) xs 1 4 5 ss l refl r.schema);
-      many_tables = r.many_tables ∙ sym f;
-      tables = subst (λ (v : ℕ). Stands (many data_of v) xs b.tables_at ts) (sym f) (stands_on (many data_of a.tables) xs 1 a.tables_at b.tables_at ts l h r.tables);
-      query = stands_on queries xs 1 a.query_at b.query_at q l i r.query;
-      work = g ∙ r.work;
+      many_types = r.many_types;
+      schema = stands_on (many types a.types) xs 1 4 5 ss l refl r.schema;
+      many_tables = r.many_tables;
+      tables = stands_on (many data_of a.tables) xs 1 a.tables_at (1 + a.tables_at) ts l refl r.tables;
+      query = stands_on queries xs 1 a.query_at (1 + a.query_at) q l refl r.query;
+      work = r.work;
     }
 
-pub plans_on : (xs : List ℕ) (a b : Plan) (ss : Schema) (q : Query) → 1 ≤ length xs → b.types ≡ a.types → b.query_at ≡ 1 + a.query_at → PlansFor (from 1 xs) 0 a ss q → PlansFor xs 1 b ss q
-plans_on xs a b ss q l e i r =
+plans_on : (xs : List ℕ) (a : Plan) (ss : Schema) (q : Query) → 1 ≤ length xs → PlansFor (from 1 xs) 0 a ss q → PlansFor xs 1 (plan_moved a) ss q
+plans_on xs a ss q l r =
     record {
-      many_types = r.many_types ∙ sym e;
-      schema = subst (λ (v : ℕ). Stands (many types v) xs 5 ss) (sym e) (stands_on (many types a.types) xs 1 4 5 ss l refl r.schema);
-      query = stands_on queries xs 1 a.query_at b.query_at q l i r.query;
+      many_types = r.many_types;
+      schema = stands_on (many types a.types) xs 1 4 5 ss l refl r.schema;
+      query = stands_on queries xs 1 a.query_at (1 + a.query_at) q l refl r.query;
     }
+
+-- a request, by its tag and what was read after it
+module _ (xs : List ℕ) (typed : (j : ℕ) → Fits w8 (slice_index xs j)) (n : 0 < length xs) where
+  pub ask_told : (a : Ask) (e : ℕ) → slice_index xs 0 ≡ 0 → ReadAs ask_load (from 1 xs) e (λ l. AsksFor (from 1 xs) 0 a l.0 l.1.0 l.1.1.0 l.1.1.1) → ReadAs requests xs (1 + e) (TellsRequest xs (ToAsk (ask_moved a)))
+  ask_told a e t r =
+      let l = r.thing in
+      record { thing = _; begins = request_begins xs typed 0 e (1 + e) l n t r.begins refl; says = (l.0, l.1.0, l.1.1.0, l.1.1.1, refl, asks_on xs a l.0 l.1.0 l.1.1.0 l.1.1.1 n r.says) }
+
+  pub plan_told : (p : Plan) (e : ℕ) → slice_index xs 0 ≡ 1 → ReadAs plan_load (from 1 xs) e (λ l. PlansFor (from 1 xs) 0 p l.0 l.1) → ReadAs requests xs (1 + e) (TellsRequest xs (ToPlan (plan_moved p)))
+  plan_told p e t r =
+      let l = r.thing in
+      record { thing = _; begins = request_begins xs typed 1 e (1 + e) l n t r.begins refl; says = (l.0, l.1, refl, plans_on xs p l.0 l.1 n r.says) }

@@ -1,11 +1,11 @@
 -- Codings made of others: one thing and then what it announces. Reading, getting stuck and one way only, from those of the parts.
 use Rattle.std.specs.Prelude.{◌≡◌, ℕ, ◌+◌, ◌-◌, ◌^◌, ◌<◌, ◌≤◌, true, List, [], ◌∷◌, ◌++◌, length, take, drop, replicate, ◌≢◌, slice_index, refl}
 use Rattle.std.proofs.Common.{sym, ap, ap₂, subst, ◌∙◌, arith, length-append, length-drop, take-add, length-take-le}
-use Rattle.std.proofs.lemmas.List.{append_assoc, append-nil, drop_more, take_all, length-replicate}
+use Rattle.std.proofs.lemmas.List.{append_assoc, append-nil, take_all, length-replicate}
 use Rattle.query.specs.Types.{bytes}
 use Rattle.format.specs.Coding.{Coding, le, number, tag, raw, name, writes, many, counted, both_of}
 use Rattle.format.specs.Reading.{Begins, NoneInFront, Stuck, OneWay, NotWhole, Garbled, OnePlace}
-use Rattle.format.specs.Lists.{append_same, split_at, bytes_take, bytes_append, bytes_zeros}
+use Rattle.format.specs.Lists.{append_same, split_at, bytes_first, bytes_take, bytes_append, bytes_zeros}
 use Rattle.format.specs.Bytes.{length_le, le_same, pad}
 
 -- a thing of C is a thing of A and then one of B
@@ -119,8 +119,9 @@ number_stuck w xs b h =
 pub tag_way : OneWay tag
 tag_way s t xs ys f g e = let h : s ≡ t = cc in let r : xs ≡ ys = cc in (h, r)
 
-pub tag_begins : (xs : List ℕ) (t : ℕ) → 0 < length xs → bytes xs ≡ true → slice_index xs 0 ≡ t → t < 256 → Begins tag xs 1 t
-tag_begins xs t l b e h = record { within = l; fits = h; is = ap (λ (v : List ℕ). take 1 v) (drop_more xs 0 0 l) ∙ ap (λ (v : ℕ). v ∷ []) e }
+pub tag_begins : (xs : List ℕ) (t : ℕ) → 0 < length xs → bytes xs ≡ true → slice_index xs 0 ≡ t → Begins tag xs 1 t
+tag_begins [] t l b e = absurd (omega arith)
+tag_begins (x ∷ xs) t l b e = let h : x < 256 = (bytes_first x xs b).0 in record { within = omega arith; fits = omega (arith, e); is = ap (λ (v : ℕ). v ∷ []) e }
 
 pub tag_stuck : (xs : List ℕ) → xs ≡ [] → Stuck tag xs 0
 tag_stuck xs z =

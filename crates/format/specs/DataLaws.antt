@@ -1,16 +1,16 @@
 -- Data are trees, and their heads are told by their tags.
 use Rattle.std.specs.Prelude.{◌≡◌, ℕ, suc, ◌+◌, ◌^◌, ◌<◌, ◌≤◌, true, false, List, [], ◌∷◌, ◌++◌, length, slice_index, refl}
-use Rattle.std.proofs.Common.{sym, ap, ap₂, subst, ◌∙◌, arith}
+use Rattle.std.proofs.Common.{sym, ap, ap₂, subst, ◌∙◌, arith, Fits}
+use Rattle.std.specs.Int.{w8}
 use Rattle.std.proofs.lemmas.List.{append-nil}
 use Rattle.query.specs.Data.{Name, Data, unit, num, truth, text, bag, rec, left, right, Datas, none, more, Fields, no_field, field, how_many}
 use Rattle.format.specs.Coding.{le, number, name, writes, AllFit, many, counted}
 use Rattle.format.specs.Wire.{names, write_names, truth_tag, write_data, write_datas, write_values, FitsData, FitsDatas, FitsValues, data_of}
 use Rattle.format.specs.Heads.{as_datas, as_fields, DataHead, unit_h, num_h, truth_h, text_h, bag_h, rec_h, left_h, right_h, write_data_head, FitsDataHead, data_heads, data_arity, first_datum, build_data}
-use Rattle.query.specs.Types.{bytes}
-use Rattle.format.specs.Reading.{Begins, Stuck}
-use Rattle.format.specs.Nodes.{NodeRead, TellsData}
+use Rattle.format.specs.Reading.{Begins, Stuck, ReadAs}
+use Rattle.format.specs.Nodes.{TellsData}
 use Rattle.format.specs.declared.node.DataNode.{DataNode}
-use Rattle.format.specs.Lists.{bytes_none, from}
+use Rattle.format.specs.Lists.{bytes_none, from, bytes_typed}
 use Rattle.format.specs.Codings.{Out, number_way, name_way}
 use Rattle.format.specs.Trees.{Laws}
 use Rattle.format.specs.Tags.{Table, end, row, alone, entry, Good, Tagged, plain_way, heads_way, heads_long, node_alone, node_begins, head_stuck, stuck_tag, stuck_empty}
@@ -201,18 +201,31 @@ data_laws =
       leaf_alone = refl;
     }
 
+-- a head has few parts
+pub data_few : (h : DataHead) → FitsDataHead h → data_arity h < 2 ^ 32
+unfolding FitsDataHead data_arity
+data_few unit_h f = omega arith
+data_few (num_h n) f = omega arith
+data_few (truth_h b) f = omega arith
+data_few (text_h t) f = omega arith
+data_few (bag_h k) f = f
+data_few (rec_h ns) f = f.0
+data_few left_h f = omega arith
+data_few right_h f = omega arith
+
 -- what the code reads in front of a datum
-module _ (xs : List ℕ) (b : bytes xs ≡ true) where
-  pub data_alone : (t k : ℕ) (node : DataNode) (l : (entry data_table t).load.T) → 0 < length xs → slice_index xs 0 ≡ t → t < 256 → (entry data_table t).load.Fits l → (entry data_table t).load.write l ≡ []
-      → TellsData node ((entry data_table t).make l) → k ≡ data_arity ((entry data_table t).make l) → k < 2 ^ 32 → NodeRead data_heads data_arity TellsData xs node k 1
-  data_alone t k node l n = node_alone data_heads data_table data_good (omega arith) data_tagged data_arity TellsData xs t k node l b n
+module _ (xs : List ℕ) (typed : (j : ℕ) → Fits w8 (slice_index xs j)) where
+  module _ (n : 0 < length xs) where
+    pub data_alone : (t : ℕ) (node : DataNode) (l : (entry data_table t).load.T) → slice_index xs 0 ≡ t → (entry data_table t).load.Fits l → (entry data_table t).load.write l ≡ []
+        → TellsData node ((entry data_table t).make l) → ReadAs data_heads xs 1 (TellsData node)
+    data_alone t node l = node_alone data_heads data_table data_good (omega arith) data_tagged TellsData xs t node l (bytes_typed xs typed) n
 
-  pub data_begins : (t k f e : ℕ) (node : DataNode) (l : (entry data_table t).load.T) → 0 < length xs → slice_index xs 0 ≡ t → t < 256 → Begins (entry data_table t).load (from 1 xs) f l → e ≡ 1 + f
-      → TellsData node ((entry data_table t).make l) → k ≡ data_arity ((entry data_table t).make l) → k < 2 ^ 32 → NodeRead data_heads data_arity TellsData xs node k e
-  data_begins t k f e node l n = node_begins data_heads data_table data_good (omega arith) data_tagged data_arity TellsData xs t k f e node l b n
+    pub data_begins : (t f e : ℕ) (node : DataNode) (l : (entry data_table t).load.T) → slice_index xs 0 ≡ t → Begins (entry data_table t).load (from 1 xs) f l → e ≡ 1 + f
+        → TellsData node ((entry data_table t).make l) → ReadAs data_heads xs e (TellsData node)
+    data_begins t f e node l = node_begins data_heads data_table data_good (omega arith) data_tagged TellsData xs t f e node l (bytes_typed xs typed) n
 
-  pub data_stuck : (t p e : ℕ) → 0 < length xs → slice_index xs 0 ≡ t → t < 256 → Stuck (entry data_table t).load (from 1 xs) p → e ≡ 1 + p → Stuck data_heads xs e
-  data_stuck t p e n = head_stuck data_heads data_table data_good (omega arith) data_tagged xs t p e b n
+    pub data_stuck : (t p e : ℕ) → slice_index xs 0 ≡ t → Stuck (entry data_table t).load (from 1 xs) p → e ≡ 1 + p → Stuck data_heads xs e
+    data_stuck t p e = head_stuck data_heads data_table data_good (omega arith) data_tagged xs t p e (bytes_typed xs typed) n
 
   pub data_no_tag : 0 < length xs → 9 ≤ slice_index xs 0 → Stuck data_heads xs 0
   unfolding FitsDataHead

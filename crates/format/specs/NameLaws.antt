@@ -2,12 +2,12 @@
 use Rattle.std.specs.Prelude.{ℕ, ◌<◌, List, [], ◌++◌, length, refl}
 use Rattle.std.proofs.Common.{sym, ap, ◌∙◌, arith, length-append}
 use Rattle.std.proofs.lemmas.List.{append-nil}
-use Rattle.format.specs.Coding.{Coding, le, name, writes, counted}
+use Rattle.format.specs.Coding.{Coding, le, name, writes, counted, Inhabited}
 use Rattle.format.specs.Reading.{OneWay}
 use Rattle.format.specs.Lists.{none_of, bytes_none}
 use Rattle.format.specs.Bytes.{length_le}
 use Rattle.format.specs.Codings.{name_way}
-use Rattle.format.specs.Trees.{Laws, counted_way}
+use Rattle.format.specs.Trees.{Laws, counted_way, inhabited}
 
 abbrev pub no_parts : (S : Coding) → S.T → ℕ
 no_parts S x = 0
@@ -35,3 +35,6 @@ name_laws = alone_laws name name_way (λ n f. omega (arith, length-append (le 4 
 
 pub names_way : OneWay (counted name)
 names_way = counted_way name name (no_parts name) name_laws
+
+pub name_some : Inhabited name
+name_some = inhabited name name (no_parts name) name_laws

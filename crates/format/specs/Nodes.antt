@@ -5,7 +5,7 @@ use Rattle.query.specs.Query.{Op2, equal, and, or, plus, less, join_bags, join_r
 use Rattle.query.specs.Types.{Schema}
 use Rattle.format.specs.Coding.{Coding, number, many, counted, both_of}
 use Rattle.format.specs.Wire.{write_ty, types, data_of, queries, Request, to_ask, to_plan, requests}
-use Rattle.format.specs.Heads.{DataHead, unit_h, num_h, truth_h, text_h, bag_h, rec_h, left_h, right_h, TyHead, unit_t, num_t, truth_t, text_t, bag_t, rec_t, either_t, QueryHead, table_q, it_q, env_q, just_q, two_q, one_q, each_q, keep_q, product_q, matched_q, default_q, left_q, right_q, either_q, then_q, with_env_q, write_query_head, FitsQueryHead, query_arity}
+use Rattle.format.specs.Heads.{DataHead, unit_h, num_h, truth_h, text_h, bag_h, rec_h, left_h, right_h, TyHead, unit_t, num_t, truth_t, text_t, bag_t, rec_t, either_t, QueryHead, table_q, it_q, env_q, just_q, two_q, one_q, each_q, keep_q, product_q, matched_q, default_q, left_q, right_q, either_q, then_q, with_env_q, write_query_head, FitsQueryHead}
 use Rattle.format.specs.Reading.{ReadAs}
 use Rattle.format.specs.declared.node.DataNode.{DataNode}
 use Rattle.format.specs.declared.node.DataNode.TheVariants as dn
@@ -90,14 +90,11 @@ TellsQuery qn.Then h = h ≡ then_q
 TellsQuery qn.WithEnv h = h ≡ with_env_q
 
 -- a head that is its tag alone
-pub record PlainHead (tag : ℕ) (node : QueryNode) (parts length : ℕ) : Type 0 where
+pub record PlainHead (tag : ℕ) (node : QueryNode) : Type 0 where
   pub head : QueryHead
   pub fits : FitsQueryHead head
   pub written : write_query_head head ≡ tag ∷ []
   pub tells : TellsQuery node head
-  pub arity : parts ≡ query_arity head
-  pub few : parts < 2 ^ 32
-  pub short : length ≡ 1
 
 -- a tag of no operator without a name
 abbrev pub NotOperator : ℕ → Type 0

@@ -1,17 +1,17 @@
 -- Queries are trees, and their heads are told by their tags.
-use Rattle.std.specs.Prelude.{◌≡◌, ℕ, ◌+◌, ◌^◌, ◌<◌, ◌≤◌, true, List, [], ◌∷◌, ◌++◌, length, take, slice_index, refl}
-use Rattle.std.proofs.Common.{sym, ap, ◌∙◌, arith}
+use Rattle.std.specs.Prelude.{◌≡◌, ℕ, ◌+◌, ◌^◌, ◌<◌, ◌≤◌, List, [], ◌∷◌, ◌++◌, length, take, slice_index, refl}
+use Rattle.std.proofs.Common.{sym, ap, ◌∙◌, arith, Fits}
+use Rattle.std.specs.Int.{w8}
 use Rattle.std.proofs.lemmas.List.{append-nil, drop_more}
 use Rattle.query.specs.Data.{Name, unit}
 use Rattle.query.specs.Query.{Op2, equal, and, or, plus, less, join_bags, join_recs, within, Op1, not_so, in_bag, flat, count, sum, distinct, dot, as_field, without, project, Ty, a_unit, Query, table, it, env, just, two, one, each, keep, product, matched, default, as_left, as_right, either, then, with_env}
 use Rattle.format.specs.Coding.{le, number, name, writes, AllFit, many, counted, both_of}
 use Rattle.format.specs.Wire.{write_ty, FitsTy, write_data, FitsData, tag_2, write_1, Fits1, write_query, FitsQuery, types, data_of, queries}
 use Rattle.format.specs.Heads.{QueryHead, table_q, it_q, env_q, just_q, two_q, one_q, each_q, keep_q, product_q, matched_q, default_q, left_q, right_q, either_q, then_q, with_env_q, write_query_head, FitsQueryHead, query_heads, query_arity, first_query, second_query, build_query, ty_heads, ty_arity, data_heads, data_arity}
-use Rattle.query.specs.Types.{bytes}
-use Rattle.format.specs.Reading.{OneWay, Begins, Stuck}
-use Rattle.format.specs.Nodes.{NodeRead, TellsQuery, PlainHead}
+use Rattle.format.specs.Reading.{OneWay, Begins, Stuck, ReadAs}
+use Rattle.format.specs.Nodes.{TellsQuery, PlainHead}
 use Rattle.format.specs.declared.node.QueryNode.{QueryNode}
-use Rattle.format.specs.Lists.{bytes_none, from}
+use Rattle.format.specs.Lists.{bytes_none, from, bytes_typed}
 use Rattle.format.specs.Codings.{Out, number_way, name_way, way_both, both_splits}
 use Rattle.format.specs.Trees.{Laws, tree_way}
 use Rattle.format.specs.Tags.{Table, end, row, alone, entry, Entry, Good, GoodEntry, Tagged, plain_way, heads_way, heads_long, node_alone, node_begins, head_stuck, stuck_tag, stuck_empty}
@@ -314,18 +314,39 @@ query_laws =
 pub queries_way : OneWay queries
 queries_way = tree_way queries query_heads query_arity query_laws
 
+-- a head has few parts
+pub query_few : (h : QueryHead) → FitsQueryHead h → query_arity h < 2 ^ 32
+unfolding FitsQueryHead query_arity
+query_few (table_q n) f = omega arith
+query_few it_q f = omega arith
+query_few env_q f = omega arith
+query_few (just_q t d) f = omega arith
+query_few (two_q o) f = omega arith
+query_few (one_q o) f = omega arith
+query_few each_q f = omega arith
+query_few keep_q f = omega arith
+query_few product_q f = omega arith
+query_few (matched_q m n) f = omega arith
+query_few default_q f = omega arith
+query_few (left_q t) f = omega arith
+query_few (right_q t) f = omega arith
+query_few either_q f = omega arith
+query_few then_q f = omega arith
+query_few with_env_q f = omega arith
+
 -- what the code reads in front
-module _ (xs : List ℕ) (b : bytes xs ≡ true) where
-  pub query_alone : (t k : ℕ) (node : QueryNode) (l : (entry query_table t).load.T) → 0 < length xs → slice_index xs 0 ≡ t → t < 256 → (entry query_table t).load.Fits l → (entry query_table t).load.write l ≡ []
-      → TellsQuery node ((entry query_table t).make l) → k ≡ query_arity ((entry query_table t).make l) → k < 2 ^ 32 → NodeRead query_heads query_arity TellsQuery xs node k 1
-  query_alone t k node l n = node_alone query_heads query_table query_good (omega arith) query_tagged query_arity TellsQuery xs t k node l b n
+module _ (xs : List ℕ) (typed : (j : ℕ) → Fits w8 (slice_index xs j)) where
+  module _ (n : 0 < length xs) where
+    pub query_alone : (t : ℕ) (node : QueryNode) (l : (entry query_table t).load.T) → slice_index xs 0 ≡ t → (entry query_table t).load.Fits l → (entry query_table t).load.write l ≡ []
+        → TellsQuery node ((entry query_table t).make l) → ReadAs query_heads xs 1 (TellsQuery node)
+    query_alone t node l = node_alone query_heads query_table query_good (omega arith) query_tagged TellsQuery xs t node l (bytes_typed xs typed) n
 
-  pub query_begins : (t k f e : ℕ) (node : QueryNode) (l : (entry query_table t).load.T) → 0 < length xs → slice_index xs 0 ≡ t → t < 256 → Begins (entry query_table t).load (from 1 xs) f l → e ≡ 1 + f
-      → TellsQuery node ((entry query_table t).make l) → k ≡ query_arity ((entry query_table t).make l) → k < 2 ^ 32 → NodeRead query_heads query_arity TellsQuery xs node k e
-  query_begins t k f e node l n = node_begins query_heads query_table query_good (omega arith) query_tagged query_arity TellsQuery xs t k f e node l b n
+    pub query_begins : (t f e : ℕ) (node : QueryNode) (l : (entry query_table t).load.T) → slice_index xs 0 ≡ t → Begins (entry query_table t).load (from 1 xs) f l → e ≡ 1 + f
+        → TellsQuery node ((entry query_table t).make l) → ReadAs query_heads xs e (TellsQuery node)
+    query_begins t f e node l = node_begins query_heads query_table query_good (omega arith) query_tagged TellsQuery xs t f e node l (bytes_typed xs typed) n
 
-  pub query_stuck : (t p e : ℕ) → 0 < length xs → slice_index xs 0 ≡ t → t < 256 → Stuck (entry query_table t).load (from 1 xs) p → e ≡ 1 + p → Stuck query_heads xs e
-  query_stuck t p e n = head_stuck query_heads query_table query_good (omega arith) query_tagged xs t p e b n
+    pub query_stuck : (t p e : ℕ) → slice_index xs 0 ≡ t → Stuck (entry query_table t).load (from 1 xs) p → e ≡ 1 + p → Stuck query_heads xs e
+    query_stuck t p e = head_stuck query_heads query_table query_good (omega arith) query_tagged xs t p e (bytes_typed xs typed) n
 
   pub query_no_tag : 0 < length xs → 32 ≤ slice_index xs 0 → Stuck query_heads xs 0
   unfolding FitsQueryHead
@@ -336,10 +357,10 @@ module _ (xs : List ℕ) (b : bytes xs ≡ true) where
   query_empty = stuck_empty query_heads query_table query_good (omega arith) query_tagged it_q tt xs
 
   -- a head that is its tag alone
-  pub plain_read : (node : QueryNode) (k e : ℕ) → 0 < length xs → PlainHead (slice_index xs 0) node k e → NodeRead query_heads query_arity TellsQuery xs node k e
-  plain_read node k e n h =
+  pub plain_read : (node : QueryNode) → 0 < length xs → PlainHead (slice_index xs 0) node → ReadAs query_heads xs 1 (TellsQuery node)
+  plain_read node n h =
       record {
         thing = h.head;
-        begins = record { within = omega (arith, h.short); fits = h.fits; is = ap (λ (v : ℕ). take v xs) h.short ∙ ap (λ (v : List ℕ). take 1 v) (drop_more xs 0 0 n) ∙ sym h.written };
-        says = (h.tells, h.arity, h.few);
+        begins = record { within = n; fits = h.fits; is = ap (λ (v : List ℕ). take 1 v) (drop_more xs 0 0 n) ∙ sym h.written };
+        says = h.tells;
       }

@@ -1,6 +1,7 @@
 -- Requests: told by their tags, read in one way only; what bytes ask is one thing.
-use Rattle.std.specs.Prelude.{◌≡◌, ℕ, ◌+◌, ◌<◌, ◌≤◌, true, List, [], length, drop, slice_index, refl}
-use Rattle.std.proofs.Common.{sym, ap, subst, ◌∙◌}
+use Rattle.std.specs.Prelude.{◌≡◌, ℕ, ◌+◌, ◌<◌, ◌≤◌, List, [], length, drop, slice_index, refl}
+use Rattle.std.proofs.Common.{sym, ap, subst, ◌∙◌, Fits}
+use Rattle.std.specs.Int.{w8}
 use native.Mathlib.Omega.{arith}
 use Rattle.std.proofs.lemmas.List.{append-nil}
 use Rattle.query.specs.Query.{it}
@@ -9,8 +10,7 @@ use Rattle.format.specs.Coding.{number, counted, Inhabited}
 use Rattle.format.specs.Wire.{FitsQuery, types, data_of, queries, Request, to_ask, to_plan, lent_with, write_request, FitsRequest, requests}
 use Rattle.format.specs.Nodes.{ask_tail, ask_body, ask_load, plan_load, TellsRequest, Requested}
 use Rattle.format.specs.declared.node.Request.{Request as Node}
-use Rattle.query.specs.Types.{bytes}
-use Rattle.format.specs.Lists.{from, split_at}
+use Rattle.format.specs.Lists.{from, split_at, bytes_typed}
 use Rattle.format.specs.Heads.{ty_heads, ty_arity, data_heads, data_arity}
 use Rattle.format.specs.Reading.{OneWay, Begins, Stuck, ReadAs, Whole, Asks, ReadBack, AsksOne}
 use Rattle.format.specs.Codings.{number_way, way_both, both_splits, one_place}
@@ -90,12 +90,12 @@ pub read_back : ReadBack
 read_back q r a f e = sym (asks_as q (write_request q) r a f refl e)
 
 -- what the code reads in front
-module _ (xs : List ℕ) (b : bytes xs ≡ true) where
-  pub request_begins : (t f e : ℕ) (l : (entry request_table t).load.T) → 0 < length xs → slice_index xs 0 ≡ t → t < 256 → Begins (entry request_table t).load (from 1 xs) f l → e ≡ 1 + f → Begins requests xs e ((entry request_table t).make l)
-  request_begins t f e l n = head_begins requests request_table request_good (omega arith) request_tagged xs t f e l b n
+module _ (xs : List ℕ) (typed : (j : ℕ) → Fits w8 (slice_index xs j)) where
+  pub request_begins : (t f e : ℕ) (l : (entry request_table t).load.T) → 0 < length xs → slice_index xs 0 ≡ t → Begins (entry request_table t).load (from 1 xs) f l → e ≡ 1 + f → Begins requests xs e ((entry request_table t).make l)
+  request_begins t f e l n = head_begins requests request_table request_good (omega arith) request_tagged xs t f e l (bytes_typed xs typed) n
 
-  pub request_stuck : (t p e : ℕ) → 0 < length xs → slice_index xs 0 ≡ t → t < 256 → Stuck (entry request_table t).load (from 1 xs) p → e ≡ 1 + p → Stuck requests xs e
-  request_stuck t p e n = head_stuck requests request_table request_good (omega arith) request_tagged xs t p e b n
+  pub request_stuck : (t p e : ℕ) → 0 < length xs → slice_index xs 0 ≡ t → Stuck (entry request_table t).load (from 1 xs) p → e ≡ 1 + p → Stuck requests xs e
+  request_stuck t p e n = head_stuck requests request_table request_good (omega arith) request_tagged xs t p e (bytes_typed xs typed) n
 
   pub request_no_tag : 0 < length xs → 2 ≤ slice_index xs 0 → Stuck requests xs 0
   unfolding FitsRequest FitsQuery

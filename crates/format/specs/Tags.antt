@@ -1,11 +1,10 @@
 -- Heads by their tag: a table with, for each tag from 0 on, what follows it and which head that is.
-use Rattle.std.specs.Prelude.{◌≡◌, ℕ, zero, suc, ◌+◌, ◌^◌, ◌<◌, ◌≤◌, true, List, [], ◌∷◌, ◌++◌, length, slice_index, refl}
+use Rattle.std.specs.Prelude.{◌≡◌, ℕ, zero, suc, ◌+◌, ◌<◌, ◌≤◌, true, List, [], ◌∷◌, ◌++◌, length, slice_index, refl}
 use Rattle.std.proofs.Common.{sym, ap, ◌∙◌, arith, length-append}
 use Rattle.std.proofs.Math.Path.{subst}
 use Rattle.query.specs.Types.{bytes}
 use Rattle.format.specs.Coding.{Coding, tag}
-use Rattle.format.specs.Reading.{Begins, NoneInFront, Stuck, OneWay}
-use Rattle.format.specs.Nodes.{NodeRead}
+use Rattle.format.specs.Reading.{Begins, ReadAs, NoneInFront, Stuck, OneWay}
 use Rattle.format.specs.Lists.{from, from_drop}
 use Rattle.format.specs.Codings.{Splits, begins_both, stuck_second, way_both, tag_way, tag_begins}
 
@@ -101,30 +100,30 @@ module _ (H : Coding) (es : Table H) (good : Good H 0 es) (few : rows es ≤ 256
   heads_long h f = let o = tagged h f in let q = ap H.write o.is ∙ (good_entry o.tag_is o.load_is).written o.load_is in omega (arith, ap length q)
 
   -- a head of a known tag, by what was read after it
-  pub head_begins : (xs : List ℕ) (t f e : ℕ) (l : (entry es t).load.T) → bytes xs ≡ true → 0 < length xs → slice_index xs 0 ≡ t → t < 256 → Begins (entry es t).load (from 1 xs) f l → e ≡ 1 + f → Begins H xs e ((entry es t).make l)
+  pub head_begins : (xs : List ℕ) (t f e : ℕ) (l : (entry es t).load.T) → bytes xs ≡ true → 0 < length xs → slice_index xs 0 ≡ t → Begins (entry es t).load (from 1 xs) f l → e ≡ 1 + f → Begins H xs e ((entry es t).make l)
   unfolding splits
-  head_begins xs t f e l b n g h r q =
+  head_begins xs t f e l b n g r q =
       subst (λ (v : ℕ). Begins H xs v ((entry es t).make l)) (sym q)
-      (begins_both H tag (λ v. (entry es v).load) splits xs 1 f t l (tag_begins xs t n b g h) (subst (λ (v : List ℕ). Begins (entry es t).load v f l) (from_drop 1 xs) r))
+      (begins_both H tag (λ v. (entry es v).load) splits xs 1 f t l (tag_begins xs t n b g) (subst (λ (v : List ℕ). Begins (entry es t).load v f l) (from_drop 1 xs) r))
 
-  pub head_stuck : (xs : List ℕ) (t p e : ℕ) → bytes xs ≡ true → 0 < length xs → slice_index xs 0 ≡ t → t < 256 → Stuck (entry es t).load (from 1 xs) p → e ≡ 1 + p → Stuck H xs e
-  head_stuck xs t p e b n g h r q =
+  pub head_stuck : (xs : List ℕ) (t p e : ℕ) → bytes xs ≡ true → 0 < length xs → slice_index xs 0 ≡ t → Stuck (entry es t).load (from 1 xs) p → e ≡ 1 + p → Stuck H xs e
+  head_stuck xs t p e b n g r q =
       subst (λ (v : ℕ). Stuck H xs v) (sym q)
-      (stuck_second H tag (λ v. (entry es v).load) splits xs 1 p t tag_way (tag_begins xs t n b g h) (subst (λ (v : List ℕ). Stuck (entry es t).load v p) (from_drop 1 xs) r))
+      (stuck_second H tag (λ v. (entry es v).load) splits xs 1 p t tag_way (tag_begins xs t n b g) (subst (λ (v : List ℕ). Stuck (entry es t).load v p) (from_drop 1 xs) r))
 
   -- a head of which nothing follows the tag
-  pub head_alone : (xs : List ℕ) (t : ℕ) (l : (entry es t).load.T) → bytes xs ≡ true → 0 < length xs → slice_index xs 0 ≡ t → t < 256 → (entry es t).load.Fits l → (entry es t).load.write l ≡ [] → Begins H xs 1 ((entry es t).make l)
-  head_alone xs t l b n g h f w = head_begins xs t 0 1 l b n g h record { within = omega arith; fits = f; is = sym w } refl
+  pub head_alone : (xs : List ℕ) (t : ℕ) (l : (entry es t).load.T) → bytes xs ≡ true → 0 < length xs → slice_index xs 0 ≡ t → (entry es t).load.Fits l → (entry es t).load.write l ≡ [] → Begins H xs 1 ((entry es t).make l)
+  head_alone xs t l b n g f w = head_begins xs t 0 1 l b n g record { within = omega arith; fits = f; is = sym w } refl
 
   -- the same, with what the node says of it
-  module _ (arity : H.T → ℕ) {N : Type 0} (Tells : N → H.T → Type 0) where
-    pub node_alone : (xs : List ℕ) (t k : ℕ) (node : N) (l : (entry es t).load.T) → bytes xs ≡ true → 0 < length xs → slice_index xs 0 ≡ t → t < 256 → (entry es t).load.Fits l → (entry es t).load.write l ≡ []
-        → Tells node ((entry es t).make l) → k ≡ arity ((entry es t).make l) → k < 2 ^ 32 → NodeRead H arity Tells xs node k 1
-    node_alone xs t k node l b n g h f w s a m = record { thing = (entry es t).make l; begins = head_alone xs t l b n g h f w; says = (s, a, m) }
+  module _ {N : Type 0} (Tells : N → H.T → Type 0) where
+    pub node_alone : (xs : List ℕ) (t : ℕ) (node : N) (l : (entry es t).load.T) → bytes xs ≡ true → 0 < length xs → slice_index xs 0 ≡ t → (entry es t).load.Fits l → (entry es t).load.write l ≡ []
+        → Tells node ((entry es t).make l) → ReadAs H xs 1 (Tells node)
+    node_alone xs t node l b n g f w s = record { thing = (entry es t).make l; begins = head_alone xs t l b n g f w; says = s }
 
-    pub node_begins : (xs : List ℕ) (t k f e : ℕ) (node : N) (l : (entry es t).load.T) → bytes xs ≡ true → 0 < length xs → slice_index xs 0 ≡ t → t < 256 → Begins (entry es t).load (from 1 xs) f l → e ≡ 1 + f
-        → Tells node ((entry es t).make l) → k ≡ arity ((entry es t).make l) → k < 2 ^ 32 → NodeRead H arity Tells xs node k e
-    node_begins xs t k f e node l b n g h r q s a m = record { thing = (entry es t).make l; begins = head_begins xs t f e l b n g h r q; says = (s, a, m) }
+    pub node_begins : (xs : List ℕ) (t f e : ℕ) (node : N) (l : (entry es t).load.T) → bytes xs ≡ true → 0 < length xs → slice_index xs 0 ≡ t → Begins (entry es t).load (from 1 xs) f l → e ≡ 1 + f
+        → Tells node ((entry es t).make l) → ReadAs H xs e (Tells node)
+    node_begins xs t f e node l b n g r q s = record { thing = (entry es t).make l; begins = head_begins xs t f e l b n g r q; says = s }
 
   module _ (h₀ : H.T) (f₀ : H.Fits h₀) where
     -- no head has such a tag

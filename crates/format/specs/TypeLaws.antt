@@ -1,17 +1,17 @@
 -- Types are trees, and their heads are told by their tags.
-use Rattle.std.specs.Prelude.{◌≡◌, ℕ, suc, ◌+◌, ◌^◌, ◌<◌, ◌≤◌, true, List, [], ◌∷◌, ◌++◌, length, slice_index, refl}
-use Rattle.std.proofs.Common.{sym, ap, ap₂, subst, arith}
+use Rattle.std.specs.Prelude.{◌≡◌, ℕ, suc, ◌+◌, ◌^◌, ◌<◌, ◌≤◌, List, [], ◌∷◌, ◌++◌, length, slice_index, refl}
+use Rattle.std.proofs.Common.{sym, ap, ap₂, subst, arith, Fits}
+use Rattle.std.specs.Int.{w8}
 use Rattle.std.proofs.lemmas.List.{append-nil}
 use Rattle.query.specs.Data.{Name}
 use Rattle.query.specs.Query.{Ty, a_unit, a_num, a_truth, a_text, a_bag, a_rec, an_either, Tys, no_ty, ty}
 use Rattle.format.specs.Coding.{name, writes, AllFit, many, counted}
 use Rattle.format.specs.Wire.{names_ty, write_names, write_ty, write_tys, FitsTy, FitsTys, types}
 use Rattle.format.specs.Heads.{as_tys, TyHead, unit_t, num_t, truth_t, text_t, bag_t, rec_t, either_t, write_ty_head, FitsTyHead, ty_heads, ty_arity, first_ty_of, second_ty_of, build_ty}
-use Rattle.query.specs.Types.{bytes}
-use Rattle.format.specs.Reading.{Begins, Stuck}
-use Rattle.format.specs.Nodes.{NodeRead, TellsType}
+use Rattle.format.specs.Reading.{Begins, Stuck, ReadAs}
+use Rattle.format.specs.Nodes.{TellsType}
 use Rattle.format.specs.declared.node.TypeNode.{TypeNode}
-use Rattle.format.specs.Lists.{from}
+use Rattle.format.specs.Lists.{from, bytes_typed}
 use Rattle.format.specs.Codings.{Out}
 use Rattle.format.specs.Trees.{Laws}
 use Rattle.format.specs.Tags.{Table, end, row, alone, entry, Good, Tagged, plain_way, heads_way, heads_long, node_alone, node_begins, head_stuck, stuck_tag, stuck_empty}
@@ -159,18 +159,30 @@ ty_laws =
       leaf_alone = refl;
     }
 
+-- a head has few parts
+pub ty_few : (h : TyHead) → FitsTyHead h → ty_arity h < 2 ^ 32
+unfolding FitsTyHead ty_arity
+ty_few unit_t f = omega arith
+ty_few num_t f = omega arith
+ty_few truth_t f = omega arith
+ty_few text_t f = omega arith
+ty_few bag_t f = omega arith
+ty_few (rec_t ns) f = f.0
+ty_few either_t f = omega arith
+
 -- what the code reads in front
-module _ (xs : List ℕ) (b : bytes xs ≡ true) where
-  pub ty_alone : (t k : ℕ) (node : TypeNode) (l : (entry ty_table t).load.T) → 0 < length xs → slice_index xs 0 ≡ t → t < 256 → (entry ty_table t).load.Fits l → (entry ty_table t).load.write l ≡ []
-      → TellsType node ((entry ty_table t).make l) → k ≡ ty_arity ((entry ty_table t).make l) → k < 2 ^ 32 → NodeRead ty_heads ty_arity TellsType xs node k 1
-  ty_alone t k node l n = node_alone ty_heads ty_table ty_good (omega arith) ty_tagged ty_arity TellsType xs t k node l b n
+module _ (xs : List ℕ) (typed : (j : ℕ) → Fits w8 (slice_index xs j)) where
+  module _ (n : 0 < length xs) where
+    pub ty_alone : (t : ℕ) (node : TypeNode) (l : (entry ty_table t).load.T) → slice_index xs 0 ≡ t → (entry ty_table t).load.Fits l → (entry ty_table t).load.write l ≡ []
+        → TellsType node ((entry ty_table t).make l) → ReadAs ty_heads xs 1 (TellsType node)
+    ty_alone t node l = node_alone ty_heads ty_table ty_good (omega arith) ty_tagged TellsType xs t node l (bytes_typed xs typed) n
 
-  pub ty_begins : (t k f e : ℕ) (node : TypeNode) (l : (entry ty_table t).load.T) → 0 < length xs → slice_index xs 0 ≡ t → t < 256 → Begins (entry ty_table t).load (from 1 xs) f l → e ≡ 1 + f
-      → TellsType node ((entry ty_table t).make l) → k ≡ ty_arity ((entry ty_table t).make l) → k < 2 ^ 32 → NodeRead ty_heads ty_arity TellsType xs node k e
-  ty_begins t k f e node l n = node_begins ty_heads ty_table ty_good (omega arith) ty_tagged ty_arity TellsType xs t k f e node l b n
+    pub ty_begins : (t f e : ℕ) (node : TypeNode) (l : (entry ty_table t).load.T) → slice_index xs 0 ≡ t → Begins (entry ty_table t).load (from 1 xs) f l → e ≡ 1 + f
+        → TellsType node ((entry ty_table t).make l) → ReadAs ty_heads xs e (TellsType node)
+    ty_begins t f e node l = node_begins ty_heads ty_table ty_good (omega arith) ty_tagged TellsType xs t f e node l (bytes_typed xs typed) n
 
-  pub ty_stuck : (t p e : ℕ) → 0 < length xs → slice_index xs 0 ≡ t → t < 256 → Stuck (entry ty_table t).load (from 1 xs) p → e ≡ 1 + p → Stuck ty_heads xs e
-  ty_stuck t p e n = head_stuck ty_heads ty_table ty_good (omega arith) ty_tagged xs t p e b n
+    pub ty_stuck : (t p e : ℕ) → slice_index xs 0 ≡ t → Stuck (entry ty_table t).load (from 1 xs) p → e ≡ 1 + p → Stuck ty_heads xs e
+    ty_stuck t p e = head_stuck ty_heads ty_table ty_good (omega arith) ty_tagged xs t p e (bytes_typed xs typed) n
 
   pub ty_no_tag : 0 < length xs → 7 ≤ slice_index xs 0 → Stuck ty_heads xs 0
   unfolding FitsTyHead

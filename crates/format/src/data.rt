@@ -29,14 +29,12 @@ impl Sort for Names {
     ghost unique = { tree_way name name (no_parts name) name_laws };
 
     fn head(bytes: &[u8]) -> Result<Opening<usize>, usize> {
-        match read_name(bytes) {
-            Ok(n) => Ok(Opening {
-                head: n,
-                parts: 0,
-                length: 4 + n,
-            }),
-            Err(p) => Err(p),
-        }
+        let n = read_name(bytes)?;
+        Ok(Opening {
+            head: n,
+            parts: 0,
+            length: 4 + n,
+        })
     }
 }
 
@@ -58,71 +56,49 @@ impl Sort for Data {
     }
 }
 
-// What stands in front of a datum.
-pub fn data_node(bytes: &[u8]) -> Result<Opening<DataNode>, usize>
-    ensures { MatchResult result (λ o. NodeRead data_heads data_arity TellsData bytes.now o.head o.parts o.length) (λ p. Stuck data_heads bytes.now p) }
+// The node of the datum in front, and how many bytes stand before its parts.
+#[tactic(auto, using(crate::specs::DataLaws::data_no_tag, crate::specs::DataLaws::data_empty))]
+fn data_head(bytes: &[u8]) -> Result<(DataNode, usize), usize>
+    ensures { MatchResult result (λ g. ReadAs data_heads bytes.now g.1 (TellsData g.0)) (λ p. Stuck data_heads bytes.now p) }
 {
     if bytes.len() == 0 {
         return Err(0);
     }
+    let rest = &bytes[1..];
     match bytes[0] {
-        0 => Ok(Opening {
-            head: DataNode::Nothing,
-            parts: 0,
-            length: 1,
-        }),
-        1 => match read_u64(&bytes[1..]) {
-            Ok(n) => Ok(Opening {
-                head: DataNode::Number(n),
-                parts: 0,
-                length: 9,
-            }),
-            Err(p) => Err(1 + p),
-        },
-        2 => Ok(Opening {
-            head: DataNode::Truth(false),
-            parts: 0,
-            length: 1,
-        }),
-        3 => Ok(Opening {
-            head: DataNode::Truth(true),
-            parts: 0,
-            length: 1,
-        }),
-        4 => match read_name(&bytes[1..]) {
-            Ok(n) => Ok(Opening {
-                head: DataNode::Text(n),
-                parts: 0,
-                length: 5 + n,
-            }),
-            Err(p) => Err(1 + p),
-        },
-        5 => match read_u32(&bytes[1..]) {
-            Ok(k) => Ok(Opening {
-                head: DataNode::Bag(k),
-                parts: k,
-                length: 5,
-            }),
-            Err(p) => Err(1 + p),
-        },
-        6 => match scan_counted::<Names>(&bytes[1..]) {
-            Ok(names) => Ok(Opening {
-                head: DataNode::Record(names.count),
-                parts: names.count,
-                length: 1 + names.length,
-            }),
-            Err(p) => Err(1 + p),
-        },
-        7 => Ok(Opening {
-            head: DataNode::Left,
-            parts: 1,
-            length: 1,
-        }),
-        8 => Ok(Opening {
-            head: DataNode::Right,
-            parts: 1,
-            length: 1,
-        }),
+        0 => Ok((DataNode::Nothing, 1)),
+        1 => {
+            let n = read_u64(rest).map_err(|p| 1 + p)?;
+            Ok((DataNode::Number(n), 9))
+        }
+        2 => Ok((DataNode::Truth(false), 1)),
+        3 => Ok((DataNode::Truth(true), 1)),
+        4 => {
+            let n = read_name(rest).map_err(|p| 1 + p)?;
+            Ok((DataNode::Text(n), 5 + n))
+        }
+        5 => {
+            let things = read_u32(rest).map_err(|p| 1 + p)?;
+            Ok((DataNode::Bag(things), 5))
+        }
+        6 => {
+            let names = scan_counted::<Names>(rest).map_err(|p| 1 + p)?;
+            Ok((DataNode::Record(names.count), 1 + names.length))
+        }
+        7 => Ok((DataNode::Left, 1)),
+        8 => Ok((DataNode::Right, 1)),
         _ => Err(0),
     }
+}
+
+// What stands in front of a datum.
+pub fn data_node(bytes: &[u8]) -> Result<Opening<DataNode>, usize>
+    ensures { MatchResult result (λ o. NodeRead data_heads data_arity TellsData bytes.now o.head o.parts o.length) (λ p. Stuck data_heads bytes.now p) }
+{
+    let (head, length) = data_head(bytes)?;
+    Ok(Opening {
+        head,
+        parts: head.parts(),
+        length,
+    })
 }

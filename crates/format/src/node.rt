@@ -1,5 +1,8 @@
 // Nodes: what stands in front of a datum, a type, a query or a request, as enums with numbers in their cases.
 // A name or a text is told by how many bytes it has; it stands after its length.
+ghost use Rattle.std.specs.Prelude.{◌≡◌};
+ghost use Rattle.format.specs.Heads.{DataHead, data_arity, TyHead, ty_arity, QueryHead, query_arity};
+ghost use Rattle.format.specs.Nodes.{TellsData, TellsType, TellsQuery};
 
 #[derive(Clone, Copy)]
 pub enum DataNode {
@@ -16,6 +19,22 @@ pub enum DataNode {
     Right,
 }
 
+impl DataNode {
+    // How many data follow.
+    #[tactic(auto, unfolding(crate::specs::Heads::data_arity))]
+    pub fn parts(self) -> usize
+        ensures { (h : DataHead) → TellsData self h → result ≡ data_arity h }
+    {
+        match self {
+            DataNode::Nothing | DataNode::Number(_) | DataNode::Truth(_) | DataNode::Text(_) => 0,
+            DataNode::Bag(things) => things,
+            DataNode::Record(fields) => fields,
+            DataNode::Left => 1,
+            DataNode::Right => 1,
+        }
+    }
+}
+
 #[derive(Clone, Copy)]
 pub enum TypeNode {
     Nothing,
@@ -26,6 +45,21 @@ pub enum TypeNode {
     // a record's of so many fields; their names stand in the head
     Record(usize),
     Either,
+}
+
+impl TypeNode {
+    // How many types follow.
+    #[tactic(auto, unfolding(crate::specs::Heads::ty_arity))]
+    pub fn parts(self) -> usize
+        ensures { (h : TyHead) → TellsType self h → result ≡ ty_arity h }
+    {
+        match self {
+            TypeNode::Nothing | TypeNode::Number | TypeNode::Truth | TypeNode::Text => 0,
+            TypeNode::Bag => 1,
+            TypeNode::Record(fields) => fields,
+            TypeNode::Either => 2,
+        }
+    }
 }
 
 #[derive(Clone, Copy)]
@@ -78,6 +112,28 @@ pub enum QueryNode {
     Either,
     Then,
     WithEnv,
+}
+
+impl QueryNode {
+    // How many queries follow.
+    #[tactic(auto, unfolding(crate::specs::Heads::query_arity))]
+    pub fn parts(self) -> usize
+        ensures { (h : QueryHead) → TellsQuery self h → result ≡ query_arity h }
+    {
+        match self {
+            QueryNode::Table(_) | QueryNode::It | QueryNode::Env | QueryNode::Just(_) => 0,
+            QueryNode::One(_) | QueryNode::OnLeft(_) | QueryNode::OnRight(_) => 1,
+            QueryNode::Two(_)
+            | QueryNode::Each
+            | QueryNode::Keep
+            | QueryNode::Product
+            | QueryNode::Matched(_, _)
+            | QueryNode::Default
+            | QueryNode::Either
+            | QueryNode::Then
+            | QueryNode::WithEnv => 2,
+        }
+    }
 }
 
 // A request to ask: how many types the schema has, which stand after the tag and their count; where the tables begin and how many;

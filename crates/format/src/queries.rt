@@ -1,5 +1,5 @@
 // Queries as a sort: what stands in front of them.
-ghost use Rattle.std.specs.Prelude.{◌≡◌, ℕ, ◌+◌, length, MatchResult};
+ghost use Rattle.std.specs.Prelude.{◌≡◌, ℕ, ◌+◌, length, MatchOption, MatchResult};
 ghost use Rattle.format.specs.Coding.{both_of, name};
 ghost use Rattle.format.specs.Wire.{write_ty, types, data_of, queries};
 ghost use Rattle.format.specs.Heads.{query_heads, query_arity};
@@ -34,134 +34,44 @@ impl Sort for Queries {
 }
 
 // The nodes of operators on one or two things that have no name.
-fn operator_node(tag: u8) -> Result<Opening<QueryNode>, usize>
-    ensures { MatchResult result (λ o. PlainHead tag o.head o.parts o.length) (λ p. (p ≡ 0) × NotOperator tag) }
+#[tactic(auto, unfolding(crate::specs::Heads::write_query_head, crate::specs::Heads::FitsQueryHead, crate::specs::Wire::tag_2, crate::specs::Wire::write_1, crate::specs::Wire::Fits1))]
+fn operator_node(tag: u8) -> Option<QueryNode>
+    ensures { MatchOption result (NotOperator tag) (λ node. PlainHead tag node) }
 {
     match tag {
-        4 => Ok(Opening {
-            head: QueryNode::Two(Binary::Equal),
-            parts: 2,
-            length: 1,
-        }),
-        5 => Ok(Opening {
-            head: QueryNode::Two(Binary::And),
-            parts: 2,
-            length: 1,
-        }),
-        6 => Ok(Opening {
-            head: QueryNode::Two(Binary::Or),
-            parts: 2,
-            length: 1,
-        }),
-        7 => Ok(Opening {
-            head: QueryNode::Two(Binary::Plus),
-            parts: 2,
-            length: 1,
-        }),
-        8 => Ok(Opening {
-            head: QueryNode::Two(Binary::Less),
-            parts: 2,
-            length: 1,
-        }),
-        9 => Ok(Opening {
-            head: QueryNode::Two(Binary::JoinBags),
-            parts: 2,
-            length: 1,
-        }),
-        10 => Ok(Opening {
-            head: QueryNode::Two(Binary::JoinRecords),
-            parts: 2,
-            length: 1,
-        }),
-        11 => Ok(Opening {
-            head: QueryNode::Two(Binary::Within),
-            parts: 2,
-            length: 1,
-        }),
-        12 => Ok(Opening {
-            head: QueryNode::One(Unary::Not),
-            parts: 1,
-            length: 1,
-        }),
-        13 => Ok(Opening {
-            head: QueryNode::One(Unary::InBag),
-            parts: 1,
-            length: 1,
-        }),
-        14 => Ok(Opening {
-            head: QueryNode::One(Unary::Flat),
-            parts: 1,
-            length: 1,
-        }),
-        15 => Ok(Opening {
-            head: QueryNode::One(Unary::Count),
-            parts: 1,
-            length: 1,
-        }),
-        16 => Ok(Opening {
-            head: QueryNode::One(Unary::Sum),
-            parts: 1,
-            length: 1,
-        }),
-        17 => Ok(Opening {
-            head: QueryNode::One(Unary::Distinct),
-            parts: 1,
-            length: 1,
-        }),
-        _ => Err(0),
+        4 => Some(QueryNode::Two(Binary::Equal)),
+        5 => Some(QueryNode::Two(Binary::And)),
+        6 => Some(QueryNode::Two(Binary::Or)),
+        7 => Some(QueryNode::Two(Binary::Plus)),
+        8 => Some(QueryNode::Two(Binary::Less)),
+        9 => Some(QueryNode::Two(Binary::JoinBags)),
+        10 => Some(QueryNode::Two(Binary::JoinRecords)),
+        11 => Some(QueryNode::Two(Binary::Within)),
+        12 => Some(QueryNode::One(Unary::Not)),
+        13 => Some(QueryNode::One(Unary::InBag)),
+        14 => Some(QueryNode::One(Unary::Flat)),
+        15 => Some(QueryNode::One(Unary::Count)),
+        16 => Some(QueryNode::One(Unary::Sum)),
+        17 => Some(QueryNode::One(Unary::Distinct)),
+        _ => None,
     }
 }
 
 // The nodes of which nothing follows the tag but parts.
-fn plain_node(tag: u8) -> Result<Opening<QueryNode>, usize>
-    ensures { MatchResult result (λ o. PlainHead tag o.head o.parts o.length) (λ p. (p ≡ 0) × NotPlain tag) }
+#[tactic(auto, unfolding(crate::specs::Heads::write_query_head, crate::specs::Heads::FitsQueryHead))]
+pub fn plain_node(tag: u8) -> Option<QueryNode>
+    ensures { MatchOption result (NotPlain tag) (λ node. PlainHead tag node) }
 {
     match tag {
-        1 => Ok(Opening {
-            head: QueryNode::It,
-            parts: 0,
-            length: 1,
-        }),
-        2 => Ok(Opening {
-            head: QueryNode::Env,
-            parts: 0,
-            length: 1,
-        }),
-        22 => Ok(Opening {
-            head: QueryNode::Each,
-            parts: 2,
-            length: 1,
-        }),
-        23 => Ok(Opening {
-            head: QueryNode::Keep,
-            parts: 2,
-            length: 1,
-        }),
-        24 => Ok(Opening {
-            head: QueryNode::Product,
-            parts: 2,
-            length: 1,
-        }),
-        26 => Ok(Opening {
-            head: QueryNode::Default,
-            parts: 2,
-            length: 1,
-        }),
-        29 => Ok(Opening {
-            head: QueryNode::Either,
-            parts: 2,
-            length: 1,
-        }),
-        30 => Ok(Opening {
-            head: QueryNode::Then,
-            parts: 2,
-            length: 1,
-        }),
-        31 => Ok(Opening {
-            head: QueryNode::WithEnv,
-            parts: 2,
-            length: 1,
-        }),
+        1 => Some(QueryNode::It),
+        2 => Some(QueryNode::Env),
+        22 => Some(QueryNode::Each),
+        23 => Some(QueryNode::Keep),
+        24 => Some(QueryNode::Product),
+        26 => Some(QueryNode::Default),
+        29 => Some(QueryNode::Either),
+        30 => Some(QueryNode::Then),
+        31 => Some(QueryNode::WithEnv),
         _ => operator_node(tag),
     }
 }
@@ -170,25 +80,67 @@ fn plain_node(tag: u8) -> Result<Opening<QueryNode>, usize>
 fn two_names(bytes: &[u8]) -> Result<(usize, usize), usize>
     ensures { MatchResult result (λ g. ReadAs (both_of name name) bytes.now (4 + g.0 + (4 + g.1)) (λ p. (length p.0 ≡ g.0) × (length p.1 ≡ g.1))) (λ p. Stuck (both_of name name) bytes.now p) }
 {
-    match read_name(bytes) {
-        Ok(m) => match read_name(&bytes[4 + m..]) {
-            Ok(n) => Ok((m, n)),
-            Err(p) => Err(4 + m + p),
-        },
-        Err(p) => Err(p),
-    }
+    let m = read_name(bytes)?;
+    let n = read_name(&bytes[4 + m..]).map_err(|p| 4 + m + p)?;
+    Ok((m, n))
 }
 
 // A type and a datum: how many bytes each has.
 fn typed_datum(bytes: &[u8]) -> Result<(usize, usize), usize>
     ensures { MatchResult result (λ g. ReadAs (both_of types data_of) bytes.now (g.0 + g.1) (λ p. length (write_ty p.0) ≡ g.0)) (λ p. Stuck (both_of types data_of) bytes.now p) }
 {
-    match scan::<Types>(bytes, 1) {
-        Ok(t) => match scan::<Data>(&bytes[t..], 1) {
-            Ok(d) => Ok((t, d)),
-            Err(p) => Err(t + p),
-        },
-        Err(p) => Err(p),
+    let t = scan::<Types>(bytes, 1)?;
+    let d = scan::<Data>(&bytes[t..], 1).map_err(|p| t + p)?;
+    Ok((t, d))
+}
+
+// The node of the query in front, and how many bytes stand before its parts.
+#[tactic(auto, using(crate::specs::QueryLaws::query_no_tag, crate::specs::QueryLaws::query_empty, crate::specs::QueryLaws::plain_read))]
+fn query_head(bytes: &[u8]) -> Result<(QueryNode, usize), usize>
+    ensures { MatchResult result (λ g. ReadAs query_heads bytes.now g.1 (TellsQuery g.0)) (λ p. Stuck query_heads bytes.now p) }
+{
+    if bytes.len() == 0 {
+        return Err(0);
+    }
+    let rest = &bytes[1..];
+    match bytes[0] {
+        0 => {
+            let n = read_u32(rest).map_err(|p| 1 + p)?;
+            Ok((QueryNode::Table(n), 5))
+        }
+        3 => {
+            let (t, d) = typed_datum(rest).map_err(|p| 1 + p)?;
+            Ok((QueryNode::Just(t), 1 + (t + d)))
+        }
+        18 => {
+            let n = read_name(rest).map_err(|p| 1 + p)?;
+            Ok((QueryNode::One(Unary::Dot(n)), 5 + n))
+        }
+        19 => {
+            let n = read_name(rest).map_err(|p| 1 + p)?;
+            Ok((QueryNode::One(Unary::AsField(n)), 5 + n))
+        }
+        20 => {
+            let n = read_name(rest).map_err(|p| 1 + p)?;
+            Ok((QueryNode::One(Unary::Without(n)), 5 + n))
+        }
+        21 => {
+            let names = scan_counted::<Names>(rest).map_err(|p| 1 + p)?;
+            Ok((QueryNode::One(Unary::Only(names.count)), 1 + names.length))
+        }
+        25 => {
+            let (m, n) = two_names(rest).map_err(|p| 1 + p)?;
+            Ok((QueryNode::Matched(m, n), 1 + (4 + m + (4 + n))))
+        }
+        27 => {
+            let t = scan::<Types>(rest, 1).map_err(|p| 1 + p)?;
+            Ok((QueryNode::OnLeft(t), 1 + t))
+        }
+        28 => {
+            let t = scan::<Types>(rest, 1).map_err(|p| 1 + p)?;
+            Ok((QueryNode::OnRight(t), 1 + t))
+        }
+        tag => Ok((plain_node(tag).ok_or(0usize)?, 1)),
     }
 }
 
@@ -196,82 +148,10 @@ fn typed_datum(bytes: &[u8]) -> Result<(usize, usize), usize>
 pub fn query_node(bytes: &[u8]) -> Result<Opening<QueryNode>, usize>
     ensures { MatchResult result (λ o. NodeRead query_heads query_arity TellsQuery bytes.now o.head o.parts o.length) (λ p. Stuck query_heads bytes.now p) }
 {
-    if bytes.len() == 0 {
-        return Err(0);
-    }
-    match bytes[0] {
-        0 => match read_u32(&bytes[1..]) {
-            Ok(n) => Ok(Opening {
-                head: QueryNode::Table(n),
-                parts: 0,
-                length: 5,
-            }),
-            Err(p) => Err(1 + p),
-        },
-        3 => match typed_datum(&bytes[1..]) {
-            Ok((t, d)) => Ok(Opening {
-                head: QueryNode::Just(t),
-                parts: 0,
-                length: 1 + (t + d),
-            }),
-            Err(p) => Err(1 + p),
-        },
-        18 => match read_name(&bytes[1..]) {
-            Ok(n) => Ok(Opening {
-                head: QueryNode::One(Unary::Dot(n)),
-                parts: 1,
-                length: 5 + n,
-            }),
-            Err(p) => Err(1 + p),
-        },
-        19 => match read_name(&bytes[1..]) {
-            Ok(n) => Ok(Opening {
-                head: QueryNode::One(Unary::AsField(n)),
-                parts: 1,
-                length: 5 + n,
-            }),
-            Err(p) => Err(1 + p),
-        },
-        20 => match read_name(&bytes[1..]) {
-            Ok(n) => Ok(Opening {
-                head: QueryNode::One(Unary::Without(n)),
-                parts: 1,
-                length: 5 + n,
-            }),
-            Err(p) => Err(1 + p),
-        },
-        21 => match scan_counted::<Names>(&bytes[1..]) {
-            Ok(names) => Ok(Opening {
-                head: QueryNode::One(Unary::Only(names.count)),
-                parts: 1,
-                length: 1 + names.length,
-            }),
-            Err(p) => Err(1 + p),
-        },
-        25 => match two_names(&bytes[1..]) {
-            Ok((m, n)) => Ok(Opening {
-                head: QueryNode::Matched(m, n),
-                parts: 2,
-                length: 1 + (4 + m + (4 + n)),
-            }),
-            Err(p) => Err(1 + p),
-        },
-        27 => match scan::<Types>(&bytes[1..], 1) {
-            Ok(t) => Ok(Opening {
-                head: QueryNode::OnLeft(t),
-                parts: 1,
-                length: 1 + t,
-            }),
-            Err(p) => Err(1 + p),
-        },
-        28 => match scan::<Types>(&bytes[1..], 1) {
-            Ok(t) => Ok(Opening {
-                head: QueryNode::OnRight(t),
-                parts: 1,
-                length: 1 + t,
-            }),
-            Err(p) => Err(1 + p),
-        },
-        tag => plain_node(tag),
-    }
+    let (head, length) = query_head(bytes)?;
+    Ok(Opening {
+        head,
+        parts: head.parts(),
+        length,
+    })
 }

@@ -11,7 +11,7 @@ use crate::data::Data;
 use crate::node::{Ask, Plan, Request};
 use crate::number::read_u64;
 use crate::queries::Queries;
-use crate::sort::{Opening, Run, Sort, scan, scan_counted, whole};
+use crate::sort::{Opening, Sort, scan, scan_counted, whole};
 use crate::types::Types;
 
 pub struct Requests;
@@ -28,14 +28,12 @@ impl Sort for Requests {
     ghost unique = { requests_way };
 
     fn head(bytes: &[u8]) -> Result<Opening<Request>, usize> {
-        match request_node(bytes) {
-            Ok((head, length)) => Ok(Opening {
-                head,
-                parts: 0,
-                length,
-            }),
-            Err(p) => Err(p),
-        }
+        let (head, length) = request_node(bytes)?;
+        Ok(Opening {
+            head,
+            parts: 0,
+            length,
+        })
     }
 }
 
@@ -43,69 +41,41 @@ impl Sort for Requests {
 fn query_and_work(bytes: &[u8]) -> Result<(usize, u64), usize>
     ensures { MatchResult result (λ g. ReadAs ask_tail bytes.now (g.0 + 8) (λ l. Stands queries bytes.now 0 l.0 × (g.1 ≡ l.1))) (λ p. Stuck ask_tail bytes.now p) }
 {
-    match scan::<Queries>(bytes, 1) {
-        Ok(length) => match read_u64(&bytes[length..]) {
-            Ok(work) => Ok((length, work)),
-            Err(p) => Err(length + p),
-        },
-        Err(p) => Err(p),
-    }
+    let length = scan::<Queries>(bytes, 1)?;
+    let work = read_u64(&bytes[length..]).map_err(|p| length + p)?;
+    Ok((length, work))
 }
 
 // What follows the tag of a request to ask, with its places counted from there on, and how many bytes it has.
 fn ask_node(bytes: &[u8]) -> Result<(Ask, usize), usize>
     ensures { MatchResult result (λ g. ReadAs ask_load bytes.now g.1 (λ l. AsksFor bytes.now 0 g.0 l.0 l.1.0 l.1.1.0 l.1.1.1)) (λ p. Stuck ask_load bytes.now p) }
 {
-    match scan_counted::<Types>(bytes) {
-        Ok(
-            Run {
-                count: types,
-                length: s,
-            },
-        ) => {
-            let rest = &bytes[s..];
-            match scan_counted::<Data>(rest) {
-                Ok(
-                    Run {
-                        count: tables,
-                        length: t,
-                    },
-                ) => match query_and_work(&rest[t..]) {
-                    Ok((q, work)) => Ok((
-                        Ask {
-                            types,
-                            tables_at: s + 4,
-                            tables,
-                            query_at: s + t,
-                            work,
-                        },
-                        s + (t + (q + 8)),
-                    )),
-                    Err(p) => Err(s + (t + p)),
-                },
-                Err(p) => Err(s + p),
-            }
-        }
-        Err(p) => Err(p),
-    }
+    let schema = scan_counted::<Types>(bytes)?;
+    let rest = &bytes[schema.length..];
+    let tables = scan_counted::<Data>(rest).map_err(|p| schema.length + p)?;
+    let (query, work) = query_and_work(&rest[tables.length..]).map_err(|p| schema.length
+        + (tables.length + p))?;
+    let ask = Ask {
+        types: schema.count,
+        tables_at: schema.length + 4,
+        tables: tables.count,
+        query_at: schema.length + tables.length,
+        work,
+    };
+    Ok((ask, schema.length + (tables.length + (query + 8))))
 }
 
 // What follows the tag of a request to plan, with its places counted from there on, and how many bytes it has.
 fn plan_node(bytes: &[u8]) -> Result<(Plan, usize), usize>
     ensures { MatchResult result (λ g. ReadAs plan_load bytes.now g.1 (λ l. PlansFor bytes.now 0 g.0 l.0 l.1)) (λ p. Stuck plan_load bytes.now p) }
 {
-    match scan_counted::<Types>(bytes) {
-        Ok(
-            Run {
-                count: types,
-                length: s,
-            },
-        ) => match scan::<Queries>(&bytes[s..], 1) {
-            Ok(q) => Ok((Plan { types, query_at: s }, s + q)),
-            Err(p) => Err(s + p),
-        },
-        Err(p) => Err(p),
-    }
+    let schema = scan_counted::<Types>(bytes)?;
+    let query = scan::<Queries>(&bytes[schema.length..], 1).map_err(|p| schema.length + p)?;
+    let plan = Plan {
+        types: schema.count,
+        query_at: schema.length,
+    };
+    Ok((plan, schema.length + query))
 }
 
 // What stands in front of a request, and how many bytes it has: all of it, since a request has no requests as parts.
@@ -115,30 +85,25 @@ fn request_node(bytes: &[u8]) -> Result<(Request, usize), usize>
     if bytes.len() == 0 {
         return Err(0);
     }
+    let rest = &bytes[1..];
     match bytes[0] {
-        0 => match ask_node(&bytes[1..]) {
-            Ok((a, length)) => {
-                let ask = Ask {
-                    types: a.types,
-                    tables_at: 1 + a.tables_at,
-                    tables: a.tables,
-                    query_at: 1 + a.query_at,
-                    work: a.work,
-                };
-                Ok((Request::ToAsk(ask), 1 + length))
-            }
-            Err(p) => Err(1 + p),
-        },
-        1 => match plan_node(&bytes[1..]) {
-            Ok((b, length)) => Ok((
-                Request::ToPlan(Plan {
-                    types: b.types,
-                    query_at: 1 + b.query_at,
-                }),
-                1 + length,
-            )),
-            Err(p) => Err(1 + p),
-        },
+        0 => {
+            let (ask, length) = ask_node(rest).map_err(|p| 1 + p)?;
+            let ask = Ask {
+                tables_at: 1 + ask.tables_at,
+                query_at: 1 + ask.query_at,
+                ..ask
+            };
+            Ok((Request::ToAsk(ask), 1 + length))
+        }
+        1 => {
+            let (plan, length) = plan_node(rest).map_err(|p| 1 + p)?;
+            let plan = Plan {
+                query_at: 1 + plan.query_at,
+                ..plan
+            };
+            Ok((Request::ToPlan(plan), 1 + length))
+        }
         _ => Err(0),
     }
 }

@@ -45,32 +45,26 @@ pub fn scan<S: Sort>(bytes: &[u8], count: usize) -> Result<usize, usize>
 {
     let mut end: usize = 0;
     let mut pending: u128 = count as u128;
+    // Each head says how many more are to come, so there is no range to go over; a recursion would be as deep as the bytes nest.
     while pending > 0 {
-        match S::head(&bytes[end..]) {
-            Ok(o) => {
-                pending = pending - 1 + o.parts as u128;
-                end += o.length;
-            }
-            Err(p) => return Err(end + p),
-        }
+        let o = S::head(&bytes[end..]).map_err(|p| end + p)?;
+        pending = pending - 1 + o.parts as u128;
+        end += o.length;
     }
     Ok(end)
 }
 
 // A count and as many things.
+#[tactic(auto, using(crate::proofs::Names::counted_read, crate::proofs::Names::counted_cut, crate::proofs::Names::counted_short))]
 pub fn scan_counted<S: Sort>(bytes: &[u8]) -> Result<Run, usize>
     ensures { MatchResult result (λ g. ReadAs (counted S.coding) bytes.now g.length (λ xs. length xs ≡ g.count)) (λ p. Stuck (counted S.coding) bytes.now p) }
 {
-    match read_u32(bytes) {
-        Ok(count) => match scan::<S>(&bytes[4..], count) {
-            Ok(e) => Ok(Run {
-                count,
-                length: 4 + e,
-            }),
-            Err(p) => Err(4 + p),
-        },
-        Err(p) => Err(p),
-    }
+    let count = read_u32(bytes)?;
+    let e = scan::<S>(&bytes[4..], count).map_err(|p| 4 + p)?;
+    Ok(Run {
+        count,
+        length: 4 + e,
+    })
 }
 
 // The head of the one thing that all of the bytes are, or the place at which they cease to be one.
@@ -78,16 +72,14 @@ pub fn whole<S: Sort>(bytes: &[u8]) -> Result<S::Head, usize>
     ensures is { MatchResult result (λ h. Whole S.coding bytes.now) (λ p. Garbled S.coding bytes.now p) }
     ensures says { IfOk result (λ h. (e : ℕ) × S.told h bytes.now e) }
 {
-    match S::head(bytes) {
-        Ok(o) => match scan::<S>(&bytes[o.length..], o.parts) {
-            Ok(e) => {
-                if o.length + e < bytes.len() {
-                    return Err(o.length + e);
-                }
-                Ok(o.head)
-            }
-            Err(p) => Err(o.length + p),
-        },
-        Err(p) => Err(p),
+    let Opening {
+        head,
+        parts,
+        length,
+    } = S::head(bytes)?;
+    let e = length + scan::<S>(&bytes[length..], parts).map_err(|p| length + p)?;
+    if e < bytes.len() {
+        return Err(e);
     }
+    Ok(head)
 }

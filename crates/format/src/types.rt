@@ -29,52 +29,37 @@ impl Sort for Types {
     }
 }
 
-// What stands in front of a type.
-pub fn type_node(bytes: &[u8]) -> Result<Opening<TypeNode>, usize>
-    ensures { MatchResult result (λ o. NodeRead ty_heads ty_arity TellsType bytes.now o.head o.parts o.length) (λ p. Stuck ty_heads bytes.now p) }
+// The node of the type in front, and how many bytes stand before its parts.
+#[tactic(auto, using(crate::specs::TypeLaws::ty_no_tag, crate::specs::TypeLaws::ty_empty))]
+fn type_head(bytes: &[u8]) -> Result<(TypeNode, usize), usize>
+    ensures { MatchResult result (λ g. ReadAs ty_heads bytes.now g.1 (TellsType g.0)) (λ p. Stuck ty_heads bytes.now p) }
 {
     if bytes.len() == 0 {
         return Err(0);
     }
     match bytes[0] {
-        0 => Ok(Opening {
-            head: TypeNode::Nothing,
-            parts: 0,
-            length: 1,
-        }),
-        1 => Ok(Opening {
-            head: TypeNode::Number,
-            parts: 0,
-            length: 1,
-        }),
-        2 => Ok(Opening {
-            head: TypeNode::Truth,
-            parts: 0,
-            length: 1,
-        }),
-        3 => Ok(Opening {
-            head: TypeNode::Text,
-            parts: 0,
-            length: 1,
-        }),
-        4 => Ok(Opening {
-            head: TypeNode::Bag,
-            parts: 1,
-            length: 1,
-        }),
-        5 => match scan_counted::<Names>(&bytes[1..]) {
-            Ok(names) => Ok(Opening {
-                head: TypeNode::Record(names.count),
-                parts: names.count,
-                length: 1 + names.length,
-            }),
-            Err(p) => Err(1 + p),
-        },
-        6 => Ok(Opening {
-            head: TypeNode::Either,
-            parts: 2,
-            length: 1,
-        }),
+        0 => Ok((TypeNode::Nothing, 1)),
+        1 => Ok((TypeNode::Number, 1)),
+        2 => Ok((TypeNode::Truth, 1)),
+        3 => Ok((TypeNode::Text, 1)),
+        4 => Ok((TypeNode::Bag, 1)),
+        5 => {
+            let names = scan_counted::<Names>(&bytes[1..]).map_err(|p| 1 + p)?;
+            Ok((TypeNode::Record(names.count), 1 + names.length))
+        }
+        6 => Ok((TypeNode::Either, 1)),
         _ => Err(0),
     }
+}
+
+// What stands in front of a type.
+pub fn type_node(bytes: &[u8]) -> Result<Opening<TypeNode>, usize>
+    ensures { MatchResult result (λ o. NodeRead ty_heads ty_arity TellsType bytes.now o.head o.parts o.length) (λ p. Stuck ty_heads bytes.now p) }
+{
+    let (head, length) = type_head(bytes)?;
+    Ok(Opening {
+        head,
+        parts: head.parts(),
+        length,
+    })
 }

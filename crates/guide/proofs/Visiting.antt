@@ -1,23 +1,24 @@
 -- What each way through a visit leaves.
-use Rattle.std.proofs.Common.{◌≡◌, ℕ, zero, suc, ◌+◌, ◌-◌, ◌^◌, ◌<◌, ◌≤◌, List, ◌∷◌, ◌++◌, length, get_or, take, drop, Some, None, sym, refl, ap, ◌∙◌, subst, ap₂, arith, length-append}
+use Rattle.std.proofs.Common.{◌≡◌, ℕ, zero, suc, ◌+◌, ◌-◌, ◌^◌, ◌<◌, ◌≤◌, ◌≢◌, List, [], ◌∷◌, ◌++◌, length, get_or, take, drop, Some, None, sym, refl, ap, ◌∙◌, subst, ap₂, arith, length-append, Ok, Err, Option, Result, MatchResult}
+use Rattle.std.specs.Result.{result_ok}
 use Rattle.std.proofs.lemmas.List.{append_assoc, drop_at, drop_more}
 use Rattle.query.specs.Data.{Name}
 use Rattle.query.specs.Query.{Op1, Query, table, it, env, just, two, one, each, keep, product, matched, default, as_left, as_right, either, then, with_env}
 use Rattle.format.specs.Coding.{Coding, le, number, name, writes, counted}
 use Rattle.format.specs.Wire.{write_ty, write_query, FitsQuery, queries}
-use Rattle.format.specs.Heads.{QueryHead, just_q, one_q, matched_q, left_q, right_q, write_query_head, query_heads, build_query}
-use Rattle.format.specs.Reading.{Begins, Stuck}
-use Rattle.format.specs.Nodes.{IsOp1, TellsQuery}
+use Rattle.format.specs.Heads.{QueryHead, table_q, it_q, env_q, just_q, two_q, one_q, each_q, keep_q, product_q, matched_q, default_q, left_q, right_q, either_q, then_q, with_env_q, write_query_head, query_heads, build_query}
+use Rattle.format.specs.Reading.{Begins, ReadAs, Stuck}
+use Rattle.format.specs.Nodes.{IsOp1, TellsQuery, PlainHead}
 use Rattle.format.specs.declared.node.QueryNode.{QueryNode}
 use Rattle.format.specs.declared.node.QueryNode.TheVariants as qn
 use Rattle.format.specs.declared.node.Unary.{Unary}
 use Rattle.format.specs.Lists.{split_at, from, from_drop}
 use Rattle.format.specs.Bytes.{length_le}
-use Rattle.format.specs.Codings.{number_way}
+use Rattle.format.specs.Codings.{number_way, name_way}
 use Rattle.format.specs.Tags.{Table, end, row, entry, rows, Good, GoodEntry, beyond}
 use Rattle.format.specs.QueryLaws.{query_table, query_good, query_tagged}
 use Rattle.guide.specs.Guide.{first_part, last_part, Guided}
-use Rattle.guide.specs.Visits.{SaysLast, Visited, PlainPart, TwoNames}
+use Rattle.guide.specs.Visits.{SaysLast, Visited}
 use Rattle.guide.proofs.Shapes.{parts}
 use Rattle.guide.proofs.Frame.{written_some}
 use Rattle.guide.proofs.Heads.{head_of, head_fits, in_bytes, from_head, found, is_query}
@@ -131,12 +132,43 @@ first_by q h e = ap first_part (from_head q h e)
 pub says_by : (q : Query) (h : QueryHead) (last : ℕ) → head_of q ≡ h → SaysLast last q → SaysLast last (build_query h (parts q))
 says_by q h last e s = subst (λ (v : Query). SaysLast last v) (from_head q h e) s
 
--- a number that was read is the one that stands there
-pub number_same : (xs more : List ℕ) (m n : ℕ) → Begins (number 4) xs 4 n → m < 2 ^ 32 → xs ≡ le 4 m ++ more → m ≡ n
-number_same xs more m n b f e = (number_way 4 m n more (drop 4 xs) f b.fits (sym e ∙ split_at 4 xs (le 4 n) b.is)).0
+-- what a read told that was kept as an option
+pub read_some : {T : Type 0} (A : T → Type 0) (B : ℕ → Type 0) (r : Result T ℕ) (o : Option T) (x : T) → MatchResult r A B → o ≡ result_ok r → o ≡ Some x → A x
+read_some {T} A B (Ok y) o x m e f = let z : ◌≡◌ {A = Option T} (Some y) (Some x) = sym e ∙ f in let q : y ≡ x = cc in subst A q m
+read_some {T} A B (Err p) o x m e f = let z : ◌≡◌ {A = Option T} None (Some x) = sym e ∙ f in cc
 
-pub number_there : (xs more : List ℕ) (m p : ℕ) → Stuck (number 4) xs p → m < 2 ^ 32 → xs ≡ le 4 m ++ more → ⊥
-number_there xs more m p s f e = s.absent m more f e
+pub read_none : {T : Type 0} (A : T → Type 0) (B : ℕ → Type 0) (r : Result T ℕ) (o : Option T) → MatchResult r A B → o ≡ result_ok r → o ≡ None → (p : ℕ) × B p
+read_none {T} A B (Ok y) o m e f = let z : ◌≡◌ {A = Option T} (Some y) None = sym e ∙ f in cc
+read_none {T} A B (Err p) o m e f = (p, m)
+
+-- things that begin with how many they have: numbers, which tell themselves, names, and several names
+abbrev pub Counts : (L : Coding) → (L.T → ℕ) → Type 0
+Counts L count = (l : L.T) (more : List ℕ) → L.Fits l → (count l < 2 ^ 32) × (u : List ℕ) × (L.write l ++ more ≡ le 4 (count l) ++ u)
+
+pub number_counts : Counts (number 4) (λ n. n)
+number_counts n more f = (f, more, refl)
+
+pub name_counts : Counts name length
+name_counts n more f = (f.0, n ++ more, append_assoc (le 4 (length n)) n more)
+
+pub names_counts : Counts (counted name) length
+names_counts ns more f = (f.0, writes name ns ++ more, append_assoc (le 4 (length ns)) (writes name ns) more)
+
+module _ (L : Coding) (count : L.T → ℕ) (c : Counts L count) (xs more : List ℕ) (l : L.T) (f : L.Fits l) (e : xs ≡ L.write l ++ more) where
+  count_same : (n : ℕ) → Begins (number 4) xs 4 n → count l ≡ n
+  count_same n b = let w = c l more f in (number_way 4 (count l) n w.1 (drop 4 xs) w.0 b.fits (sym w.2 ∙ sym e ∙ split_at 4 xs (le 4 n) b.is)).0
+
+  count_there : (p : ℕ) → Stuck (number 4) xs p → ⊥
+  count_there p s = let w = c l more f in s.absent (count l) w.1 w.0 (e ∙ w.2)
+
+-- the count after a tag, as it was read
+module _ (xs : List ℕ) (last t : ℕ) (tag : get_or xs 0 0 ≡ t) (count : (entry query_table t).load.T → ℕ) (c : Counts (entry query_table t).load count)
+    (r : Result ℕ ℕ) (m : MatchResult r (λ n. Begins (number 4) (from 1 xs) 4 n) (λ p. Stuck (number 4) (from 1 xs) p)) (o : Option ℕ) (e : o ≡ result_ok r) where
+  pub uncounted : o ≡ None → Visited xs last None
+  uncounted z = let b = read_none _ _ r o m e z in unvisited xs last t tag (λ q rest l. count_there (entry query_table t).load count c (from 1 xs) l.more l.load l.fits l.after b.0 b.1)
+
+  pub counted_as : (n : ℕ) → o ≡ Some n → (q : Query) (rest : List ℕ) (l : Loaded t xs q rest) → count l.load ≡ n
+  counted_as n z q rest l = count_same (entry query_table t).load count c (from 1 xs) l.more l.load l.fits l.after n (read_some _ _ r o n m e z)
 
 -- what is written out, and the types of other sides
 pub just_told : (xs rest : List ℕ) (last k : ℕ) (q : Query) → k ≡ last - 1 → Loaded 3 xs q rest → SaysLast last q → TellsQuery (qn.Just k) (head_of q) × (1 ≡ first_part q)
@@ -168,39 +200,33 @@ pub counted_told : (q : Query) (last : ℕ) (o : Op1) (u : Unary) → head_of q 
 unfolding build_query
 counted_told q last o u e f s = ((o, e, f), only_part q (one_q o) last 1 e refl refl s)
 
-pub name_same : (xs more : List ℕ) (n : Name) (k : ℕ) → Begins (number 4) xs 4 k → name.Fits n → xs ≡ name.write n ++ more → length n ≡ k
-name_same xs more n k b f e = number_same xs (n ++ more) (length n) k b f.0 (e ∙ append_assoc (le 4 (length n)) n more)
+-- a head that is its tag alone, and has parts
+first_plain : (t : ℕ) (h : QueryHead) (qs : List Query) → write_query_head h ≡ t ∷ [] → (t ≢ 1) → (t ≢ 2) → first_part (build_query h qs) ≡ 1
+unfolding write_query_head first_part build_query
+first_plain t (table_q n) qs e a b = absurd (omega (arith, ap length e, length_le 4 n))
+first_plain t it_q qs e a b = absurd (a (sym (ap (λ (v : List ℕ). get_or v 0 0) e)))
+first_plain t env_q qs e a b = absurd (b (sym (ap (λ (v : List ℕ). get_or v 0 0) e)))
+first_plain t (just_q u d) qs e a b = refl
+first_plain t (two_q o) qs e a b = refl
+first_plain t (one_q o) qs e a b = ap length e
+first_plain t each_q qs e a b = refl
+first_plain t keep_q qs e a b = refl
+first_plain t product_q qs e a b = refl
+first_plain t (matched_q m n) qs e a b = omega (arith, ap length e)
+first_plain t default_q qs e a b = refl
+first_plain t (left_q u) qs e a b = omega (arith, ap length e)
+first_plain t (right_q u) qs e a b = omega (arith, ap length e)
+first_plain t either_q qs e a b = refl
+first_plain t then_q qs e a b = refl
+first_plain t with_env_q qs e a b = refl
 
-pub name_there : (xs more : List ℕ) (n : Name) (p : ℕ) → Stuck (number 4) xs p → name.Fits n → xs ≡ name.write n ++ more → ⊥
-name_there xs more n p s f e = number_there xs (n ++ more) (length n) p s f.0 (e ∙ append_assoc (le 4 (length n)) n more)
-
-pub names_same : (xs more : List ℕ) (ns : List Name) (k : ℕ) → Begins (number 4) xs 4 k → (counted name).Fits ns → xs ≡ (counted name).write ns ++ more → length ns ≡ k
-names_same xs more ns k b f e = number_same xs (writes name ns ++ more) (length ns) k b f.0 (e ∙ append_assoc (le 4 (length ns)) (writes name ns) more)
-
-pub names_there : (xs more : List ℕ) (ns : List Name) (p : ℕ) → Stuck (number 4) xs p → (counted name).Fits ns → xs ≡ (counted name).write ns ++ more → ⊥
-names_there xs more ns p s f e = number_there xs (writes name ns ++ more) (length ns) p s f.0 (e ∙ append_assoc (le 4 (length ns)) (writes name ns) more)
-
--- two names
-pub both_told : (xs rest : List ℕ) (last j k : ℕ) (q : Query) → TwoNames (from 1 xs) (Some (j, k)) → Loaded 25 xs q rest → TellsQuery (qn.Matched j k) (head_of q) × (1 + (4 + j + (4 + k)) ≡ first_part q)
-unfolding first_part build_query
-both_told xs rest last j k q b l =
-    let m = l.load.0 in
-    let n = l.load.1 in
-    let w = b.tells m n l.more l.fits.0 l.fits.1 l.after in
-    let a = length-append (name.write m) (name.write n) in
-    let c = length-append (le 4 (length m)) m in
-    let d = length-append (le 4 (length n)) n in
-    let g : 1 + (4 + j + (4 + k)) ≡ 1 + length (name.write m ++ name.write n) = omega (arith, length_le 4 (length m), length_le 4 (length n), w.0, w.1) in
-    ((m, n, l.is, w.0, w.1), g ∙ sym (first_by q (matched_q m n) l.is))
-
--- a head that is its tag alone
-pub plain_visited : (xs : List ℕ) (last : ℕ) (node : QueryNode) → 0 < length xs → PlainPart (get_or xs 0 0) node → Visited xs last (Some record { node = node; first = 1 })
-plain_visited xs last node l p =
-    let b : Begins query_heads xs 1 p.head = record { within = l; fits = p.fits; is = ap (λ (v : List ℕ). take 1 v) (drop_more xs 0 0 l) ∙ sym p.written } in
+pub plain_visited : (xs : List ℕ) (last : ℕ) (node : QueryNode) → 0 < length xs → (get_or xs 0 0 ≢ 1) → (get_or xs 0 0 ≢ 2) → PlainHead (get_or xs 0 0) node → Visited xs last (Some record { node = node; first = 1 })
+plain_visited xs last node l a b p =
+    let s : Begins query_heads xs 1 p.head = record { within = l; fits = p.fits; is = ap (λ (v : List ℕ). take 1 v) (drop_more xs 0 0 l) ∙ sym p.written } in
     record {
-      visits = λ q rest f i s.
-          let e = (found xs 1 p.head q rest b f i).same in
-          (is_query node q (subst (λ (v : QueryHead). TellsQuery node v) e p.tells), sym (first_by q p.head (sym e) ∙ p.first (parts q)));
+      visits = λ q rest f i k.
+          let e = (found xs 1 p.head q rest s f i).same in
+          (is_query node q (subst (λ (v : QueryHead). TellsQuery node v) e p.tells), sym (first_by q p.head (sym e) ∙ first_plain (get_or xs 0 0) p.head (parts q) p.written a b));
     }
 
 pub no_tag : (xs : List ℕ) (q : Query) (rest : List ℕ) → 32 ≤ get_or xs 0 0 → Loaded (get_or xs 0 0) xs q rest → ⊥
@@ -212,38 +238,35 @@ after_name xs more m j e i =
     let l : length (name.write m) ≡ 4 + j = length-append (le 4 (length m)) m ∙ ap₂ (λ (u : ℕ) (v : ℕ). u + v) (length_le 4 (length m)) e in
     from_drop (4 + j) xs ∙ ap (drop (4 + j)) i ∙ drop_at (name.write m) more (4 + j) l
 
-module _ (xs : List ℕ) where
-  apart : (m n : Name) (rest : List ℕ) → xs ≡ (name.write m ++ name.write n) ++ rest → xs ≡ name.write m ++ (name.write n ++ rest)
-  apart m n rest i = i ∙ append_assoc (name.write m) (name.write n) rest
+module _ (xs : List ℕ) (last : ℕ) (tag : get_or xs 0 0 ≡ 25) where
+  apart : (q : Query) (rest : List ℕ) (l : Loaded 25 xs q rest) → from 1 xs ≡ name.write l.load.0 ++ (name.write l.load.1 ++ l.more)
+  apart q rest l = l.after ∙ append_assoc (name.write l.load.0) (name.write l.load.1) l.more
 
-  pub no_first_name : (p : ℕ) → Stuck (number 4) xs p → TwoNames xs None
-  no_first_name p s = record { tells = λ m n rest f g i. name_there xs (name.write n ++ rest) m p s f (apart m n rest i); small = tt }
+  pub no_first_name : (p : ℕ) → Stuck name (from 1 xs) p → Visited xs last None
+  no_first_name p s = unvisited xs last 25 tag (λ q rest l. s.absent l.load.0 (name.write l.load.1 ++ l.more) l.fits.0 (apart q rest l))
 
-  module _ (j : ℕ) (b : Begins (number 4) xs 4 j) where
-    pub cut_name : length xs - 4 < j → TwoNames xs None
-    cut_name h =
-        record {
-          tells = λ m n rest f g i.
-              let e = name_same xs (name.write n ++ rest) m j b f (apart m n rest i) in
-              let c = length-append (le 4 (length m)) m in
-              omega (arith, ap length (apart m n rest i), length-append (name.write m) (name.write n ++ rest), length_le 4 (length m));
-          small = tt;
-        }
+  module _ (j : ℕ) (b : ReadAs name (from 1 xs) (4 + j) (λ t. length t ≡ j)) where
+    same_first : (q : Query) (rest : List ℕ) (l : Loaded 25 xs q rest) → length l.load.0 ≡ j
+    same_first q rest l =
+        let e = name_way l.load.0 b.thing _ _ l.fits.0 b.begins.fits (sym (apart q rest l) ∙ split_at (4 + j) (from 1 xs) (name.write b.thing) b.begins.is) in
+        ap length e.0 ∙ b.says
 
-    pub no_second_name : (p : ℕ) → Stuck (number 4) (from (4 + j) xs) p → TwoNames xs None
+    pub no_second_name : (p : ℕ) → Stuck (number 4) (from (4 + j) (from 1 xs)) p → Visited xs last None
     no_second_name p s =
-        record {
-          tells = λ m n rest f g i.
-              let e = name_same xs (name.write n ++ rest) m j b f (apart m n rest i) in
-              name_there (from (4 + j) xs) rest n p s g (after_name xs (name.write n ++ rest) m j e (apart m n rest i));
-          small = tt;
-        }
+        unvisited xs last 25 tag
+        (λ q rest l. count_there name length name_counts (from (4 + j) (from 1 xs)) l.more l.load.1 l.fits.1 (after_name (from 1 xs) (name.write l.load.1 ++ l.more) l.load.0 j (same_first q rest l) (apart q rest l)) p s)
 
-    pub two_names_read : (k : ℕ) → Begins (number 4) (from (4 + j) xs) 4 k → TwoNames xs (Some (j, k))
-    two_names_read k c =
-        record {
-          tells = λ m n rest f g i.
-              let e = name_same xs (name.write n ++ rest) m j b f (apart m n rest i) in
-              (e, name_same (from (4 + j) xs) rest n k c g (after_name xs (name.write n ++ rest) m j e (apart m n rest i)));
-          small = (b.fits, c.fits);
-        }
+    pub both_names : (k : ℕ) → Begins (number 4) (from (4 + j) (from 1 xs)) 4 k → Visited xs last (Some record { node = qn.Matched j k; first = 1 + (4 + j + (4 + k)) })
+    unfolding first_part build_query
+    both_names k c =
+        visited xs last 25 tag (qn.Matched j k) (1 + (4 + j + (4 + k)))
+        (λ q rest l s.
+        let m = l.load.0 in
+        let n = l.load.1 in
+        let u = same_first q rest l in
+        let v : length n ≡ k = count_same name length name_counts (from (4 + j) (from 1 xs)) l.more n l.fits.1 (after_name (from 1 xs) (name.write n ++ l.more) m j u (apart q rest l)) k c in
+        let a = length-append (name.write m) (name.write n) in
+        let d = length-append (le 4 (length m)) m in
+        let f = length-append (le 4 (length n)) n in
+        let g : 1 + (4 + j + (4 + k)) ≡ 1 + length (name.write m ++ name.write n) = omega (arith, length_le 4 (length m), length_le 4 (length n), u, v) in
+        ((m, n, l.is, u, v), g ∙ sym (first_by q (matched_q m n) l.is)))

@@ -1,11 +1,9 @@
 -- What it is to visit a query in its bytes, with a guide's number for it.
-use Rattle.std.specs.Prelude.{◌≡◌, ℕ, ◌^◌, ◌<◌, ◌≤◌, List, [], ◌∷◌, ◌++◌, length, IsSomeAnd, IfSome, Option, ◌≢◌}
+use Rattle.std.specs.Prelude.{◌≡◌, ℕ, List, ◌++◌, length, IsSomeAnd, Option}
 use Rattle.query.specs.Data.{Name, Data}
 use Rattle.query.specs.Query.{Op1, Ty, Query, table, it, env, just, two, one, each, keep, product, matched, default, as_left, as_right, either, then, with_env}
-use Rattle.format.specs.Coding.{name}
 use Rattle.format.specs.Wire.{write_ty, write_query, FitsQuery}
-use Rattle.format.specs.Heads.{QueryHead, write_query_head, FitsQueryHead, build_query}
-use Rattle.format.specs.Nodes.{op_2, IsOp1, TellsQuery}
+use Rattle.format.specs.Nodes.{op_2, IsOp1}
 use Rattle.format.specs.declared.node.QueryNode.{QueryNode}
 use Rattle.format.specs.declared.node.QueryNode.TheVariants as qn
 use Rattle.guide.specs.Guide.{first_part, last_part}
@@ -56,20 +54,3 @@ IsQuery qn.WithEnv x = OfTwo with_env x
 -- whichever query stands in front, with the guide's number for it: which one it is, and where its first part begins
 pub record Visited (xs : List ℕ) (last : ℕ) (r : Option Visit) : Type 0 where
   pub visits : (q : Query) (rest : List ℕ) → FitsQuery q → xs ≡ write_query q ++ rest → SaysLast last q → IsSomeAnd r (λ v. IsQuery v.node q × (v.first ≡ first_part q))
-
--- the node of a head that is its tag alone and has parts
-pub record PlainPart (tag : ℕ) (node : QueryNode) : Type 0 where
-  pub head : QueryHead
-  pub fits : FitsQueryHead head
-  pub written : write_query_head head ≡ tag ∷ []
-  pub tells : TellsQuery node head
-  pub first : (qs : List Query) → first_part (build_query head qs) ≡ 1
-
--- a tag of no such head: it has no parts, it has something of its own before them, or there is none
-abbrev pub NotPart : ℕ → Type 0
-NotPart t = (t ≢ 0) → (t ≢ 1) → (t ≢ 2) → (t ≢ 3) → (t ≢ 18) → (t ≢ 19) → (t ≢ 20) → (t ≢ 21) → (t ≢ 25) → (t ≢ 27) → (t ≢ 28) → 32 ≤ t
-
--- whichever two names stand in front: how long each is
-pub record TwoNames (xs : List ℕ) (r : Option (ℕ × ℕ)) : Type 0 where
-  pub tells : (m n : Name) (rest : List ℕ) → name.Fits m → name.Fits n → xs ≡ (name.write m ++ name.write n) ++ rest → IsSomeAnd r (λ g. (length m ≡ g.0) × (length n ≡ g.1))
-  pub small : IfSome r (λ g. (g.0 < 2 ^ 32) × (g.1 < 2 ^ 32))

@@ -7,8 +7,7 @@ use Rattle.loading.proofs.Rows as rows
 use Rattle.literals.specs.Numbered.{Numbered}
 use Rattle.literals.specs.Written.{written_out}
 use Rattle.literals.specs.Steps.{Here}
-use Rattle.literals.specs.Literals.{NumberedOn, Numbers, FillsAll, FillReady, Ready, Brings}
-use Rattle.literals.specs.declared.fill.Filled.{Filled}
+use Rattle.literals.specs.Literals.{Filled, NumberedOn, Numbers, FillsAll, FillReady, Ready, Brings}
 use Rattle.literals.proofs.Sorted.{few_written}
 
 module _ (bs : List ℕ) (place : ℕ) (xs g l k : List ℕ) (top count : ℕ) (n : Numbers xs g l k 0 0 count) where

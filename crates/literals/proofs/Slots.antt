@@ -10,15 +10,13 @@ use Rattle.guide.specs.Guide.{last_part}
 use Rattle.guide.proofs.Standing.{type_stands, datum_stands}
 use Rattle.values.specs.Memory.{Kept, Stored, Used, Under}
 use Rattle.values.specs.declared.value.Place.{Place}
-use Rattle.loading.specs.declared.loaded.Loaded.{Loaded}
 use Rattle.loading.specs.Loads as loads
 use Rattle.loading.proofs.Rows as rows
 use Rattle.loading.proofs.Spots.{at_stands, at_long}
 use Rattle.loading.proofs.Tabled.{deep_type}
 use Rattle.literals.specs.Written.{written_out, JustsTyped}
 use Rattle.literals.specs.Steps.{Here, Steps}
-use Rattle.literals.specs.Literals.{Reserved, Filling, FillInside, FillsMore, Fills, OneReady, FillsOne, FillReady, FillsAll}
-use Rattle.literals.specs.declared.fill.Filled.{Filled}
+use Rattle.literals.specs.Literals.{Filled, Reserved, Filling, FillInside, FillsMore, Fills, OneReady, FillsOne, FillReady, FillsAll}
 use Rattle.literals.specs.declared.step.Step.TheVariants as st
 use Rattle.literals.proofs.Sorted.{bare_part, written_part, few_written, many_joined}
 use Rattle.literals.proofs.Below.{only_below, both_below, spot_below}
@@ -29,7 +27,7 @@ abbrev pub as_row : (bs : List ℕ) (u : Used) (s : Place) (m : List ℕ) (f : F
 as_row bs u s m f ds w = record { now_used = w.now_used; grown = w.grown; made = w.made }
 
 -- one datum
-module _ (bs : List ℕ) (at kind : ℕ) (s : Place) (f : Filled) (m : List ℕ) (room : ℕ) (res : Reserved s f room) where
+module _ (bs : List ℕ) (at kind : ℕ) (s : Place) (f : Filled) (m : List ℕ) (low : ℕ) (res : Reserved s low f.top) where
   abbrev datum_ready : (g : OneReady bs at kind s f m) → loads.Ready bs at kind (length bs) f.top
   datum_ready g = record {
     datum = g.datum;
@@ -48,7 +46,7 @@ module _ (bs : List ℕ) (at kind : ℕ) (s : Place) (f : Filled) (m : List ℕ)
   unfolding how_many
   one_none n l = record { means = λ g. omega (arith, l.means (datum_ready g)) }
 
-  pub one_filled : (n n' : List ℕ) (l : Loaded) → f.next < s.count → Kept f.top m n → loads.LiesInside bs at kind f.top n l → loads.Loads bs at kind (length bs) f.top n (Some l) → Stored (s.start + 3 * f.next) l.value n n'
+  pub one_filled : (n n' : List ℕ) (l : loads.Laid) → f.next < s.count → Kept f.top m n → loads.LiesInside bs at kind f.top n l → loads.Loads bs at kind (length bs) f.top n (Some l) → Stored (s.start + 3 * f.next) l.value n n'
       → FillsOne bs at kind s f m n' (Some (record { next = f.next + 1; top = l.top }))
   unfolding how_many
   one_filled n n' l lt kept inside c stored = record {

@@ -12,8 +12,6 @@ use Rattle.values.specs.declared.value.Place.{Place}
 use Rattle.literals.specs.Numbered.{Numbered}
 use Rattle.literals.specs.Written.{written_out, JustsTyped}
 use Rattle.literals.specs.Steps.{Here}
-use Rattle.literals.specs.declared.fill.Filled.{Filled}
-use Rattle.literals.specs.declared.load.Literals.{Literals}
 
 -- a number was put at a place, if there is room for it and for a next one
 pub record Put (l k : List ℕ) (at next r : ℕ) : Type 0 where
@@ -30,10 +28,22 @@ pub record Numbers (xs g l k : List ℕ) (at next r : ℕ) : Type 0 where
   pub kept : (i : ℕ) → i < at → slice_index k i ≡ slice_index l i
   pub numbers : (q : Query) → Here xs g at q → at + length (write_query q) ≤ length l → next + how_many (written_out q) < 2 ^ 32 → NumberedOn k at next q r
 
--- slots that were reserved lie below what is free
-pub record Reserved (s : Place) (f : Filled) (room : ℕ) : Type 0 where
-  pub above : s.start + 3 * s.count ≤ f.top
-  pub within : f.top ≤ room
+-- how many slots are filled, and where free memory begins
+pub record Filled : Type 0 where
+  pub next : ℕ
+  pub top : ℕ
+
+abbrev pub so_far : ℕ → ℕ → Filled
+so_far top next = record { next = next; top = top }
+
+abbrev pub filled : ℕ → Option ℕ → Option Filled
+filled top (Some next) = Some (so_far top next)
+filled top None = None
+
+-- slots that were reserved lie in memory that is written to, and below what is free
+pub record Reserved (s : Place) (low top : ℕ) : Type 0 where
+  pub over : low ≤ s.start
+  pub above : s.start + 3 * s.count ≤ top
 
 -- The first slots hold some data, whose parts lie above all of the slots. The slots themselves are not in use yet: each may still be written.
 pub record Filling (bs : List ℕ) (u : Used) (s : Place) (m : List ℕ) (f : Filled) (ds : Datas) : Type 0 where
@@ -105,6 +115,15 @@ pub record Ready (bs : List ℕ) (place : ℕ) (xs g l : List ℕ) (top : ℕ) :
   pub typed : JustsTyped query
   pub small : size_q query ≤ 8192
   pub low : Under used top
+
+-- where the slots of what was written out begin, and where free memory begins after it
+pub record Literals : Type 0 where
+  pub start : ℕ
+  pub top : ℕ
+
+abbrev pub brought : ℕ → Option ℕ → Option Literals
+brought top (Some start) = Some (record { start = start; top = top })
+brought top None = None
 
 -- Data lie in slots in a row, and the marks have their numbers: with the slots in at most five words for each part of the query.
 pub record Brought (bs : List ℕ) (q : Query) (u : Used) (old : ℕ) (l m : List ℕ) (r : Literals) : Type 0 where

@@ -5,6 +5,8 @@ use Rattle.format.specs.Wire.{write_query, FitsQuery}
 use Rattle.format.specs.declared.node.QueryNode.{QueryNode}
 use Rattle.format.specs.declared.node.QueryNode.TheVariants as qn
 use Rattle.guide.specs.Guide.{first_part, last_part, Guided}
+use Rattle.format.specs.Lists.{from}
+use Rattle.literals.specs.declared.step.Part.{Part}
 use Rattle.literals.specs.declared.step.Kind.{Kind}
 use Rattle.literals.specs.declared.step.Kind.TheVariants as kd
 use Rattle.literals.specs.declared.step.Step.{Step}
@@ -70,3 +72,9 @@ TellsStep (st.Two first last) q = (kind_q q ≡ kd.Two) × (first ≡ first_part
 -- whichever query stands there, the step tells where its parts begin
 pub record Steps (xs g : List ℕ) (at : ℕ) (s : Step) : Type 0 where
   pub tells : (q : Query) → Here xs g at q → TellsStep s q
+
+-- the part that begins so many bytes further on
+pub record PartFrom (xs g : List ℕ) (at by : ℕ) (p : Part) : Type 0 where
+  pub query : p.query.now ≡ from by xs
+  pub guide : p.guide.now ≡ g
+  pub place : p.at ≡ at + by

@@ -1,9 +1,17 @@
 // The next step into a query: where its parts begin. Numbering and loading take the same steps, so that both come by everything in one order.
 ghost use Rattle.std.specs.Prelude.{◌≡◌, ℕ, ◌+◌, ◌<◌, ◌≤◌, length};
-ghost use Rattle.literals.specs.Steps.{kind_of, StepInside, Steps};
+ghost use Rattle.literals.specs.Steps.{kind_of, StepInside, Steps, PartFrom};
 
 use format::node::QueryNode;
 use guide::node;
+
+// A part of a query: its bytes stand in front. Its place in the guide, which is the whole query's, is `at`.
+#[derive(Clone, Copy)]
+pub struct Part<'a> {
+    pub query: &'a [u8],
+    pub guide: &'a [u32],
+    pub at: usize,
+}
 
 // How many parts a query has, and whether it writes something out.
 #[derive(Clone, Copy)]
@@ -29,46 +37,57 @@ fn kind_of(node: QueryNode) -> Kind
     ensures { result ≡ kind_of node }
 {
     match node {
-        QueryNode::Table(_) => Kind::Bare,
-        QueryNode::It => Kind::Bare,
-        QueryNode::Env => Kind::Bare,
+        QueryNode::Table(_) | QueryNode::It | QueryNode::Env => Kind::Bare,
         QueryNode::Just(_) => Kind::Written,
-        QueryNode::Two(_) => Kind::Two,
-        QueryNode::One(_) => Kind::One,
-        QueryNode::Each => Kind::Two,
-        QueryNode::Keep => Kind::Two,
-        QueryNode::Product => Kind::Two,
-        QueryNode::Matched(_, _) => Kind::Two,
-        QueryNode::Default => Kind::Two,
-        QueryNode::OnLeft(_) => Kind::One,
-        QueryNode::OnRight(_) => Kind::One,
-        QueryNode::Either => Kind::Two,
-        QueryNode::Then => Kind::Two,
-        QueryNode::WithEnv => Kind::Two,
+        QueryNode::One(_) | QueryNode::OnLeft(_) | QueryNode::OnRight(_) => Kind::One,
+        QueryNode::Two(_)
+        | QueryNode::Each
+        | QueryNode::Keep
+        | QueryNode::Product
+        | QueryNode::Matched(_, _)
+        | QueryNode::Default
+        | QueryNode::Either
+        | QueryNode::Then
+        | QueryNode::WithEnv => Kind::Two,
     }
 }
 
-// The step into the query in front, whose place in the guide is `at`. Where bytes are no query, or the guide is not theirs, places may come out
-// that lie outside of them or where nothing is left behind: there is no step then, so that whoever steps on comes to an end.
-pub fn next_step(query: &[u8], guide: &[u32], at: usize) -> Step
-    ensures inside { StepInside (length query.now) (length guide.now) at result }
-    ensures tells { Steps query.now guide.now at result }
-{
-    if at >= guide.len() {
-        return Step::Bare;
+impl<'a> Part<'a> {
+    // The part of this one that begins so many bytes further on.
+    pub fn part(self, by: usize) -> Part<'a>
+        requires within { by ≤ length self.query.now }
+        requires guided { self.at < length self.guide.now }
+        ensures { PartFrom self.entry.query.now self.entry.guide.now self.entry.at by result }
+    {
+        Part {
+            query: &self.query[by..],
+            guide: self.guide,
+            at: self.at + by,
+        }
     }
-    let last = guide[at] as usize;
-    let Some(visit) = node(query, last) else {
-        return Step::Bare;
-    };
-    let first = visit.first;
-    if first == 0 || last < first || query.len() < last {
-        return Step::Bare;
-    }
-    match kind_of(visit.node) {
-        Kind::Bare => Step::Bare,
-        Kind::Written => Step::Written(last),
-        Kind::One => Step::One(first),
-        Kind::Two => Step::Two(first, last),
+
+    // The step into it. Where bytes are no query, or the guide is not theirs, places may come out that lie outside of them or where nothing is left
+    // behind: there is no step then, so that whoever steps on comes to an end.
+    pub fn next_step(self) -> Step
+        ensures inside { StepInside (length self.entry.query.now) (length self.entry.guide.now) self.entry.at result }
+        ensures tells { Steps self.entry.query.now self.entry.guide.now self.entry.at result }
+    {
+        if self.at >= self.guide.len() {
+            return Step::Bare;
+        }
+        let last = self.guide[self.at] as usize;
+        let Some(visit) = node(self.query, last) else {
+            return Step::Bare;
+        };
+        let first = visit.first;
+        if first == 0 || last < first || self.query.len() < last {
+            return Step::Bare;
+        }
+        match kind_of(visit.node) {
+            Kind::Bare => Step::Bare,
+            Kind::Written => Step::Written(last),
+            Kind::One => Step::One(first),
+            Kind::Two => Step::Two(first, last),
+        }
     }
 }

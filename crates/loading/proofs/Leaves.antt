@@ -1,5 +1,5 @@
 -- A datum without parts, and where there is none.
-use Rattle.std.proofs.Common.{ℕ, ◌≤◌, List, length, Some, None, Option, sym, arith}
+use Rattle.std.proofs.Common.{◌≡◌, subst, ℕ, ◌≤◌, List, length, Some, None, Option, sym, arith}
 use Rattle.query.specs.Data.{Data}
 use Rattle.query.specs.Query.{Ty, a_unit, a_num, a_truth, a_text, a_bag, a_rec, an_either}
 use Rattle.format.specs.Wire.{data_of, write_ty, FitsData}
@@ -7,9 +7,8 @@ use Rattle.format.specs.Nodes.{Stands}
 use Rattle.values.specs.declared.value.Value.{Value}
 use Rattle.loading.specs.declared.loaded.Part.{Part}
 use Rattle.loading.specs.declared.loaded.Part.TheVariants as pt
-use Rattle.loading.specs.declared.loaded.Loaded.{Loaded}
-use Rattle.loading.specs.Fronts.{Tells}
-use Rattle.loading.specs.Loads.{Loads, LoadsPart}
+use Rattle.loading.specs.Fronts.{Tells, TellsFront}
+use Rattle.loading.specs.Loads.{Laid, Loads, LoadsPart}
 use Rattle.loading.proofs.Spots.{at_stands, at_long}
 use Rattle.loading.proofs.Words.{grown_refl}
 
@@ -27,13 +26,13 @@ module _ (bs : List ℕ) (at ty depth top : ℕ) where
   pub no_type : (m : List ℕ) → length bs ≤ ty → Loads bs at ty depth top m None
   no_type m l = record { means = λ g. absurd (let z : ⊥ = omega (arith, at_long (at_stands g.stands_type), type_some g.type) in z) }
 
-  abbrev Said : Part → Type 0
-  Said p = (d : Data) → Stands data_of bs at d → FitsData d → Tells bs p d
+  abbrev Said : Option Part → Type 0
+  Said p = (d : Data) → Stands data_of bs at d → FitsData d → TellsFront bs p d
 
-  pub no_datum : (m : List ℕ) → Said pt.NoDatum → Loads bs at ty depth top m None
+  pub no_datum : (m : List ℕ) → Said None → Loads bs at ty depth top m None
   no_datum m f = record { means = λ g. absurd (f g.datum g.stands g.fits) }
 
-  pub plain : (m : List ℕ) (v : Value) (n : ℕ) → Said (pt.Plain v n) → Loads bs at ty depth top m (Some record { value = v; top = top; length = n; typed = 1 })
+  pub plain : (m : List ℕ) (v : Value) (n : ℕ) → Said (Some (pt.Plain v n)) → Loads bs at ty depth top m (Some record { value = v; top = top; length = n; typed = 1 })
   plain m v n f = record {
     means = λ g.
         let p = f g.datum g.stands g.fits in
@@ -47,5 +46,5 @@ module _ (bs : List ℕ) (at ty depth top : ℕ) where
         };
   }
 
-  pub by_part : (p : Part) (m : List ℕ) (r : Option Loaded) → Said p → LoadsPart p bs at ty depth top m r → Loads bs at ty depth top m r
-  by_part p m r f l = record { means = λ g. l.means g (f g.datum g.stands g.fits) }
+  pub by_part : (p q : Part) (m : List ℕ) (r : Option Laid) → p ≡ q → Said (Some p) → LoadsPart q bs at ty depth top m r → Loads bs at ty depth top m r
+  by_part p q m r e f l = record { means = λ g. l.means g (subst (λ x. Tells bs x g.datum) e (f g.datum g.stands g.fits)) }

@@ -3,9 +3,11 @@ pub mod Starts
 pub mod Words
 pub mod Rows
 pub mod Typed
+pub mod Lined
 pub mod Bags
 pub mod Fields
 pub mod Records
 pub mod Sides
 pub mod Leaves
 pub mod Tabled
+pub mod Oks

@@ -12,11 +12,10 @@ use Rattle.values.specs.Memory.{Kept, StoredField, Spelled, Holds, HoldsFields}
 use Rattle.values.specs.Height.{height_tys}
 use Rattle.values.specs.declared.value.Value.TheVariants.{Record}
 use Rattle.values.proofs.Frame.{kept_refl, kept_trans}
-use Rattle.loading.specs.declared.loaded.Loaded.{Loaded}
 use Rattle.loading.specs.declared.loaded.Names.{Names}
 use Rattle.loading.specs.declared.loaded.Part.TheVariants as pt
 use Rattle.loading.specs.Fronts.{Tells, TellsNames, TellsName}
-use Rattle.loading.specs.Loads.{Ready, Comes, Loads, LoadsPart, LiesInside}
+use Rattle.loading.specs.Loads.{Laid, Ready, Comes, Loads, LoadsPart, LiesInside}
 use Rattle.loading.proofs.Spots.{At, at_stands, stands_at, at_same, at_spelled}
 use Rattle.loading.proofs.Fields.{joined, joined_none, joined_one, Filling, fill_none, fill_under, fill_all, fill_more}
 use Rattle.loading.proofs.Typed.{RecordOf, record_of, FirstField, first_field, no_fields}
@@ -46,7 +45,7 @@ facts {bs} {at} {kind} {depth} {top} g b =
     (subst (λ d. is_of d g.type ≡ true) b.1 g.is) g.shallow
 
 -- what comes of the record comes of the datum
-on_datum : {bs : List ℕ} {at kind depth top : ℕ} (g : Ready bs at kind depth top) (b : There g) (m : List ℕ) (r : Option Loaded) → Comes bs (rec b.0) g.type g.used top m r → Comes bs g.datum g.type g.used top m r
+on_datum : {bs : List ℕ} {at kind depth top : ℕ} (g : Ready bs at kind depth top) (b : There g) (m : List ℕ) (r : Option Laid) → Comes bs (rec b.0) g.type g.used top m r → Comes bs g.datum g.type g.used top m r
 on_datum {bs} {at} {kind} {depth} {top} g b m r h = subst (λ d. Comes bs d g.type g.used top m r) (sym b.1) h
 
 -- what is told of the record's type
@@ -97,10 +96,10 @@ pub record Turn (bs : List ℕ) (at kind depth top count : ℕ) (m n : List ℕ)
   pub named : spot ≤ length bs
   pub going : (g : Ready bs at kind depth top) (b : There g) → Going count g b n i high spot next type
 
-pub begin : (bs : List ℕ) (at kind depth top : ℕ) (h : Names) → ((ts : Tys) → Stands types bs kind (a_rec ts) → FitsTy (a_rec ts) → TellsNames (Some h) ts) → (m : List ℕ) → 5 ≤ h.length → kind + h.length ≤ length bs → at + h.length ≤ length bs
+begun : (bs : List ℕ) (at kind depth top : ℕ) (h : Names) → ((ts : Tys) → Stands types bs kind (a_rec ts) → FitsTy (a_rec ts) → TellsNames (Some h) ts) → (m : List ℕ) → 5 ≤ h.length → kind + h.length ≤ length bs → at + h.length ≤ length bs
     → top + 5 * h.count ≤ length m → Turn bs at kind depth top h.count m m 0 (top + 5 * h.count) (kind + 5) (at + h.length) (kind + h.length)
 unfolding joined
-begin bs at kind depth top h f m five l k room = record {
+begun bs at kind depth top h f m five l k room = record {
   kept = kept_refl;
   above = omega arith;
   within = room;
@@ -132,6 +131,12 @@ begin bs at kind depth top h f m five l k room = record {
         thrifty = omega arith;
       };
 }
+
+pub begin : (bs : List ℕ) (at kind depth top : ℕ) (h : Names) → ((ts : Tys) → Stands types bs kind (a_rec ts) → FitsTy (a_rec ts) → TellsNames (Some h) ts) → (m n : List ℕ) (high : ℕ) → n ≡ m → high ≡ top + 5 * h.count → 5 ≤ h.length
+    → kind + h.length ≤ length bs → at + h.length ≤ length bs → high ≤ length n → Turn bs at kind depth top h.count m n 0 high (kind + 5) (at + h.length) (kind + h.length)
+begin bs at kind depth top h f m n high e q five l k room =
+    subst (λ x. Turn bs at kind depth top h.count m n 0 x (kind + 5) (at + h.length) (kind + h.length)) (sym q)
+    (subst (λ y. Turn bs at kind depth top h.count m y 0 (top + 5 * h.count) (kind + 5) (at + h.length) (kind + h.length)) (sym e) (begun bs at kind depth top h f m five l k (omega (arith, q, ap length e))))
 
 module _ (bs : List ℕ) (at kind depth top count : ℕ) (m n : List ℕ) (i high spot next type : ℕ) (t : Turn bs at kind depth top count m n i high spot next type) where
   pub finished : i ≡ count → LoadsPart pt.Record bs at kind depth top n (Some record { value = Record (record { start = top; count = count }); top = high; length = next - at; typed = type - kind })
@@ -187,7 +192,7 @@ module _ (bs : List ℕ) (at kind depth top count : ℕ) (m n : List ℕ) (i hig
           on_datum g b n' None (omega (arith, f.means (item_ready g b), w.thrifty, w.many, x.many, x.size, many_fields x.others x.types x.are));
     }
 
-    module _ (k : ℕ) (said : TellsName bs spot (Some k)) (inside-name : spot + (4 + k) ≤ length bs) (l : Loaded) (n' n'' : List ℕ) (kept : Kept high n n') (inside : LiesInside bs next type high n' l)
+    module _ (k : ℕ) (said : TellsName bs spot (Some k)) (inside-name : spot + (4 + k) ≤ length bs) (l : Laid) (n' n'' : List ℕ) (kept : Kept high n n') (inside : LiesInside bs next type high n' l)
         (f : Loads bs next type (depth - 1) high n' (Some l)) (st : StoredField (top + 5 * i) (record { name = record { start = spot + 4; count = k }; value = l.value }) n' n'') where
       stored_kept : Kept top n' n''
       stored_kept = record { long = st.long; same = λ j lj. st.before j (omega arith) }

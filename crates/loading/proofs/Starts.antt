@@ -1,5 +1,6 @@
 -- What stands in front of data, types and names, from what was read of it.
-use Rattle.std.proofs.Common.{◌≡◌, ℕ, suc, ◌+◌, ◌-◌, ◌≤◌, Bool, true, false, ltb, List, [], ◌∷◌, ◌++◌, length, get_or, drop, Some, sym, refl, ap, ◌∙◌, subst, arith, length-append, length-drop}
+use Rattle.std.proofs.Common.{◌≡◌, ℕ, suc, ◌+◌, ◌-◌, ◌≤◌, Bool, true, false, ltb, List, [], ◌∷◌, ◌++◌, length, get_or, drop, Some, Result, Ok, Err, sym, refl, ap, ◌∙◌, subst, arith, length-append, length-drop}
+use Rattle.std.specs.Result.{MatchResult, result_ok, result_unwrap_or}
 use Rattle.std.proofs.lemmas.List.{append_assoc}
 use Rattle.query.specs.Data.{Name, Data, unit, num, truth, text, bag, rec, left, right, Fields, how_many}
 use Rattle.query.specs.Query.{Ty, a_unit, a_truth, a_text, a_rec, Tys, word}
@@ -26,9 +27,10 @@ use Rattle.format.specs.DataLaws.{data_laws}
 use Rattle.format.specs.TypeLaws.{ty_laws}
 use Rattle.values.specs.Memory.{Holds}
 use Rattle.values.specs.declared.value.Value.TheVariants as vs
-use Rattle.loading.specs.Fronts.{PlainDatum, PartInside, Tells, NamesInside, TellsNames}
+use Rattle.loading.specs.Fronts.{PlainDatum, PartInside, Tells, NamesInside, TellsNames, NameInside, TellsName}
 use Rattle.loading.specs.declared.loaded.Part.{Part}
 use Rattle.loading.specs.declared.loaded.Part.TheVariants as pt
+use Rattle.loading.specs.declared.loaded.Side.TheVariants as sd
 use Rattle.loading.proofs.Spots.{At, at_stands, at_second, at_byte, at_spelled, at_same}
 
 -- the head of a datum, and what follows it
@@ -100,8 +102,8 @@ module _ (bs : List ℕ) (at : ℕ) where
   Told (text_h t) d e = PlainDatum bs d (vs.Text record { start = at + 5; count = length t }) e
   Told (bag_h k) d e = Tells bs (pt.Bag k) d
   Told (rec_h ns) d e = Tells bs pt.Record d
-  Told left_h d e = Tells bs pt.Left d
-  Told right_h d e = Tells bs pt.Right d
+  Told left_h d e = Tells bs (pt.Either sd.Left) d
+  Told right_h d e = Tells bs (pt.Either sd.Right) d
 
   told : (d : Data) (e : ℕ) → At bs at (write_data d) → e ≡ length (write_data_head (head_of d)) → Told (head_of d) d e
   unfolding head_of write_data write_data_head Holds size_d
@@ -124,8 +126,8 @@ module _ (bs : List ℕ) (at : ℕ) where
   part_of (dn.Text n) e = pt.Plain (vs.Text record { start = at + 5; count = n }) e
   part_of (dn.Bag k) e = pt.Bag k
   part_of (dn.Record k) e = pt.Record
-  part_of dn.Left e = pt.Left
-  part_of dn.Right e = pt.Right
+  part_of dn.Left e = pt.Either sd.Left
+  part_of dn.Right e = pt.Either sd.Right
 
   module _ (node : DataNode) (k e : ℕ) (r : NodeRead data_heads data_arity TellsData (from at bs) node k e) where
     head_is : (d : Data) → Stands data_of bs at d → FitsData d → Told r.thing d e
@@ -236,18 +238,23 @@ none_there bs at l d s = go d s.is
 
 -- types
 module _ (bs : List ℕ) (ty : ℕ) where
-  pub type_long : (e : ℕ) → Read (many types 1) (from ty bs) e → (t : Ty) → Stands types bs ty t → FitsTy t → e ≡ length (write_ty t)
+  type_long : (e : ℕ) → Read (many types 1) (from ty bs) e → (t : Ty) → Stands types bs ty t → FitsTy t → e ≡ length (write_ty t)
   type_long e r t s f =
       let o = one_read types (from ty bs) e r in
       let q : write_ty o.thing ++ drop e (from ty bs) ≡ write_ty t ++ s.rest = sym (split_at e (from ty bs) (write_ty o.thing) o.begins.is) ∙ from_drop ty bs ∙ s.is in
       let w = tree_way types ty_heads ty_arity ty_laws o.thing t _ _ o.begins.fits f q in
       sym (written_length types (from ty bs) e o.thing o.begins) ∙ ap (λ x. length (write_ty x)) w.0
 
-  pub type_within : (e : ℕ) → ty ≤ length bs → Read (many types 1) (from ty bs) e → ty + e ≤ length bs
+  type_within : (e : ℕ) → ty ≤ length bs → Read (many types 1) (from ty bs) e → ty + e ≤ length bs
   type_within e l r = omega (arith, r.begins.within, ap length (from_drop ty bs), length-drop ty bs)
 
-  pub no_type : (p : ℕ) → Stuck (many types 1) (from ty bs) p → (t : Ty) → Stands types bs ty t → FitsTy t → ⊥
+  no_type : (p : ℕ) → Stuck (many types 1) (from ty bs) p → (t : Ty) → Stands types bs ty t → FitsTy t → ⊥
   no_type p k t s f = (one_stuck types (from ty bs) p k).absent t s.rest f (from_drop ty bs ∙ s.is)
+
+  pub type_said : (r : Result ℕ ℕ) → ty ≤ length bs → MatchResult r (λ e. Read (many types 1) (from ty bs) e) (λ p. Stuck (many types 1) (from ty bs) p)
+      → (ty + result_unwrap_or r 0 ≤ length bs) × ((t : Ty) → Stands types bs ty t → FitsTy t → result_unwrap_or r 0 ≡ length (write_ty t))
+  type_said (Ok e) l r = (type_within e l r, type_long e r)
+  type_said (Err p) l k = (omega arith, λ t s f. absurd (no_type p k t s f))
 
   rec_written : (ts : Tys) (rest : List ℕ) → write_ty (a_rec ts) ++ rest ≡ write_ty_head (rec_t (names_ty ts)) ++ (write_tys ts ++ rest)
   unfolding write_ty write_ty_head
@@ -305,13 +312,17 @@ module _ (bs : List ℕ) (ty : ℕ) where
 
 -- names
 module _ (bs : List ℕ) (at : ℕ) where
-  pub name_tells : (n : ℕ) → ReadAs name (from at bs) (4 + n) (λ t. length t ≡ n) → (t : Name) → Stands name bs at t → name.Fits t → n ≡ length t
+  name_tells : (n : ℕ) → ReadAs name (from at bs) (4 + n) (λ t. length t ≡ n) → (t : Name) → Stands name bs at t → name.Fits t → n ≡ length t
   name_tells n r t s f =
       let q : name.write r.thing ++ drop (4 + n) (from at bs) ≡ name.write t ++ s.rest = sym (split_at (4 + n) (from at bs) (name.write r.thing) r.begins.is) ∙ from_drop at bs ∙ s.is in
       sym r.says ∙ ap length (name_way r.thing t _ _ r.begins.fits f q).0
 
-  pub name_within : (n : ℕ) → at ≤ length bs → ReadAs name (from at bs) (4 + n) (λ t. length t ≡ n) → at + (4 + n) ≤ length bs
+  name_within : (n : ℕ) → at ≤ length bs → ReadAs name (from at bs) (4 + n) (λ t. length t ≡ n) → at + (4 + n) ≤ length bs
   name_within n l r = omega (arith, r.begins.within, ap length (from_drop at bs), length-drop at bs)
 
-  pub no_name : (p : ℕ) → Stuck name (from at bs) p → (t : Name) → Stands name bs at t → name.Fits t → ⊥
+  no_name : (p : ℕ) → Stuck name (from at bs) p → (t : Name) → Stands name bs at t → name.Fits t → ⊥
   no_name p k t s f = k.absent t s.rest f (from_drop at bs ∙ s.is)
+
+  pub name_said : (r : Result ℕ ℕ) → at ≤ length bs → MatchResult r (λ n. ReadAs name (from at bs) (4 + n) (λ t. length t ≡ n)) (λ p. Stuck name (from at bs) p) → NameInside (length bs) at (result_ok r) × TellsName bs at (result_ok r)
+  name_said (Ok n) l r = (name_within n l r, record { tells = name_tells n r })
+  name_said (Err p) l k = (tt, record { tells = no_name p k })

@@ -1,10 +1,10 @@
 -- Data by their types: what the parts of a datum are of, and where the types of the parts stand.
 use Rattle.std.proofs.Common.{◌≡◌, ℕ, suc, ◌+◌, ◌-◌, ◌<◌, ◌≤◌, true, false, List, ◌∷◌, ◌++◌, length, sym, refl, ap, ◌∙◌, subst, arith, length-append}
-use Rattle.query.specs.Data.{Name, Data, bag, rec, left, right, Datas, none, more, Fields, no_field, field, how_many}
+use Rattle.query.specs.Data.{Name, Data, bag, rec, left, right, Datas, Fields, no_field, field, how_many}
 use Rattle.query.specs.Query.{Ty, a_unit, a_num, a_truth, a_text, a_bag, a_rec, an_either, Tys, no_ty, ty}
 use Rattle.query.specs.Types.{is_of, all_of, fields_are, on_one, elem, fields_of, sides_of}
-use Rattle.query.specs.Size.{size_d, size_ds, size_fs}
-use Rattle.query.proofs.OfType.{first_of, rest_of, field_out, no_field_out, no_ty_out}
+use Rattle.query.specs.Size.{size_d, size_fs}
+use Rattle.query.proofs.OfType.{field_out, no_field_out, no_ty_out}
 use Rattle.format.specs.Coding.{le, name, writes, AllFit}
 use Rattle.format.specs.Wire.{names, names_ty, write_names, write_data, write_datas, write_values, FitsData, FitsDatas, FitsValues, write_ty, write_tys, FitsTy, FitsTys}
 use Rattle.format.specs.Bytes.{length_le}
@@ -49,45 +49,6 @@ bag_of bs at kind depth ds (a_bag t) a b f g e h =
     }
 bag_of bs at kind depth ds (a_rec ts) a b f g e h = no_truth e
 bag_of bs at kind depth ds (an_either t u) a b f g e h = no_truth e
-
--- the first of those that are to come
-pub record First (bs : List ℕ) (next : ℕ) (t : Ty) (ds : Datas) : Type 0 where
-  pub item : Data
-  pub others : Datas
-  pub is : ds ≡ more item others
-  pub of : is_of item t ≡ true
-  pub all : all_of others t ≡ true
-  pub stand : At bs next (write_data item)
-  pub stand_others : At bs (next + length (write_data item)) (write_datas others)
-  pub fit : FitsData item
-  pub fit_others : FitsDatas others
-  pub many : how_many ds ≡ suc (how_many others)
-  pub size : size_ds ds ≡ size_d item + size_ds others
-  pub long : length (write_datas ds) ≡ length (write_data item) + length (write_datas others)
-
-pub first : (bs : List ℕ) (next : ℕ) (t : Ty) (ds : Datas) → 0 < how_many ds → all_of ds t ≡ true → At bs next (write_datas ds) → FitsDatas ds → First bs next t ds
-unfolding how_many write_datas FitsDatas size_ds
-first bs next t none l e a f = absurd (omega arith)
-first bs next t (more d ds) l e a f =
-    record {
-      item = d;
-      others = ds;
-      is = refl;
-      of = first_of d ds t e;
-      all = rest_of d ds t e;
-      stand = at_first (write_data d) (write_datas ds) a;
-      stand_others = at_second (write_data d) (write_datas ds) a;
-      fit = f.0;
-      fit_others = f.1;
-      many = refl;
-      size = refl;
-      long = length-append (write_data d) (write_datas ds);
-    }
-
-pub none_left : (ds : Datas) → how_many ds ≡ 0 → ds ≡ none
-unfolding how_many
-none_left none e = refl
-none_left (more d ds) e = absurd (omega (arith, e))
 
 -- a side of an either
 pub record SideOf (bs : List ℕ) (at kind depth : ℕ) (d : Data) (a b : Ty) (to : ℕ) (own : Ty) : Type 0 where

@@ -1,222 +1,180 @@
-// Data, bags and records are loaded by functions that call each other. Each datum has a type, and where it is loaded the depth falls as that of
+// Data, rows, bags and records are loaded by functions that call each other. Each datum has a type, and where it is loaded the depth falls as that of
 // its type does: so data of a type nest no deeper than the type. Where bytes are no datum, or not of their type, what is answered says nothing.
-ghost use Rattle.std.specs.Prelude.{ℕ, ◌+◌, ◌<◌, ◌≤◌, ◌++◌, length};
-ghost use Rattle.values.specs.Memory.{Kept, Space};
+ghost use Rattle.std.specs.Prelude.{◌≡◌, ◌<◌};
+ghost use Rattle.values.specs.Memory.{Kept};
+ghost use Rattle.values.specs.Lent.{all};
 ghost use Rattle.loading.specs.declared.loaded.Part.TheVariants as parts;
-ghost use Rattle.loading.specs.Loads.{Placed, Inside, Loads, LoadsPart, Keeps};
+ghost use Rattle.loading.specs.Loads.{laid, Placed, Inside, RowInside, Loads, LoadsPart, LoadsRow};
 
-use crate::front::{name_length, names, part, type_length};
-use crate::loaded::{Loaded, Part};
-use values::memory::{size, store, store_field};
+use crate::front::{name_length, type_length, types_before};
+use crate::loaded::{Loaded, Part, Side, Slots, Spot, Typing};
+use values::lent::Memory;
 use values::value::{Field, Place, Value};
 
-// Loads the datum at a place, of the type at another, into free memory from `top` on.
-#[cycle(load_bag_load_data_load_left_load_record_load_right)]
-pub fn load_data(
-    bytes: &[u8],
-    at: usize,
-    ty: usize,
-    depth: usize,
-    base: &[u64],
-    mem: &mut [u64],
-    top: usize,
-) -> Option<Loaded>
-    requires space { Space base.now mem.old top }
-    requires room { top ≤ length base.now + length mem.old }
-    requires placed { Placed bytes.now at 0 ty 0 }
-    ensures kept { Kept top (base.now ++ mem.old) (base.now ++ mem.new) }
-    ensures inside { Inside bytes.now at ty top (base.now ++ mem.new) result }
-    ensures means { Loads bytes.now at ty depth top (base.now ++ mem.new) result }
+// Loads a datum into free memory.
+#[cycle(load)]
+pub fn load_data(spot: Spot, depth: usize, memory: &mut Memory) -> Option<Loaded>
+    ensures frozen { memory.new.kept.now ≡ memory.old.kept.now }
+    ensures kept { Kept memory.old.top (all memory.old) (all memory.new) }
+    ensures inside { Inside spot.entry.bytes.now spot.entry.at spot.entry.ty memory.old.top (all memory.new) (laid memory.new.top result) }
+    ensures means { Loads spot.entry.bytes.now spot.entry.at spot.entry.ty depth memory.old.top (all memory.new) (laid memory.new.top result) }
 {
     if depth == 0 {
         return None;
     }
-    if ty == bytes.len() {
+    if spot.ty == spot.bytes.len() {
         return None;
     }
-    match part(bytes, at) {
+    match spot.part()? {
         Part::Plain(value, length) => Some(Loaded {
             value,
-            top,
             length,
             typed: 1,
         }),
-        Part::Bag(count) => load_bag(bytes, at, ty, count, depth, base, mem, top),
-        Part::Record => load_record(bytes, at, ty, depth, base, mem, top),
-        Part::Left => load_left(bytes, at, ty, depth, base, mem, top),
-        Part::Right => load_right(bytes, at, ty, depth, base, mem, top),
-        Part::NoDatum => None,
+        Part::Bag(count) => load_bag(spot, count, depth, memory),
+        Part::Record => load_record(spot, depth, memory),
+        Part::Either(side) => load_side(spot, side, depth, memory),
     }
 }
 
-// Loads a bag of so many things: their slots are reserved in a row, and then filled one by one.
-#[cycle(load_bag_load_data_load_left_load_record_load_right)]
-fn load_bag(
-    bytes: &[u8],
-    at: usize,
-    ty: usize,
+// Loads so many data that stand one after the other: their slots are reserved in a row, and then filled one by one.
+#[cycle(load)]
+pub(crate) fn load_row(
+    spot: Spot,
+    typing: Typing,
     count: usize,
     depth: usize,
-    base: &[u64],
-    mem: &mut [u64],
-    top: usize,
-) -> Option<Loaded>
-    requires space { Space base.now mem.old top }
-    requires room { top ≤ length base.now + length mem.old }
-    requires placed { Placed bytes.now at 5 ty 1 }
-    requires deep { 0 < depth }
-    ensures kept { Kept top (base.now ++ mem.old) (base.now ++ mem.new) }
-    ensures inside { Inside bytes.now at ty top (base.now ++ mem.new) result }
-    ensures means { LoadsPart (parts.Bag count) bytes.now at ty depth top (base.now ++ mem.new) result }
+    memory: &mut Memory,
+) -> Option<Slots>
+    ensures frozen { memory.new.kept.now ≡ memory.old.kept.now }
+    ensures kept { Kept memory.old.top (all memory.old) (all memory.new) }
+    ensures inside { RowInside spot.entry.bytes.now spot.entry.at count memory.old.top memory.new.top result }
+    ensures means { LoadsRow typing spot.entry.bytes.now spot.entry.at spot.entry.ty count depth memory.old.top (all memory.new) memory.new.top result }
 {
-    if (size(base, mem) - top) / 3 < count {
-        return None;
-    }
-    let mut high = top + 3 * count;
-    let mut next = at + 5;
+    let bytes = spot.bytes;
+    let start = memory.reserve::<Value>(count)?;
+    let mut at = spot.at;
+    let mut ty = spot.ty;
     for i in 0..count {
-        let l = load_data(bytes, next, ty + 1, depth - 1, base, mem, high)?;
-        store(base, mem, top + 3 * i, l.value);
-        next += l.length;
-        high = l.top;
+        let l = load_data(Spot { bytes, at, ty }, depth, memory)?;
+        memory.set_nth(start, i, l.value);
+        at += l.length;
+        ty = match typing {
+            Typing::Shared => ty,
+            Typing::Own => ty + l.typed,
+        };
     }
-    let typed = type_length(bytes, ty + 1);
+    Some(Slots {
+        start,
+        length: at - spot.at,
+    })
+}
+
+// Loads a bag of so many things.
+#[cycle(load)]
+fn load_bag(spot: Spot, count: usize, depth: usize, memory: &mut Memory) -> Option<Loaded>
+    requires placed { Placed spot.bytes.now spot.at 5 spot.ty 1 }
+    requires deep { 0 < depth }
+    ensures frozen { memory.new.kept.now ≡ memory.old.kept.now }
+    ensures kept { Kept memory.old.top (all memory.old) (all memory.new) }
+    ensures inside { Inside spot.entry.bytes.now spot.entry.at spot.entry.ty memory.old.top (all memory.new) (laid memory.new.top result) }
+    ensures means { LoadsPart (parts.Bag count) spot.entry.bytes.now spot.entry.at spot.entry.ty depth memory.old.top (all memory.new) (laid memory.new.top result) }
+{
+    let bytes = spot.bytes;
+    let ty = spot.ty + 1;
+    let things = Spot {
+        bytes,
+        at: spot.at + 5,
+        ty,
+    };
+    let slots = load_row(things, Typing::Shared, count, depth - 1, memory)?;
+    let typed = type_length(bytes, ty);
     Some(Loaded {
-        value: Value::Bag(Place { start: top, count }),
-        top: high,
-        length: next - at,
+        value: Value::Bag(Place {
+            start: slots.start,
+            count,
+        }),
+        length: 5 + slots.length,
         typed: 1 + typed,
     })
 }
 
 // Loads a record: its fields are reserved in a row, and then filled one by one. The names are taken from the type: so equal names mostly have
-// equal places. The record's own names are the same, byte for byte, and are passed over.
-#[cycle(load_bag_load_data_load_left_load_record_load_right)]
-fn load_record(
-    bytes: &[u8],
-    at: usize,
-    ty: usize,
-    depth: usize,
-    base: &[u64],
-    mem: &mut [u64],
-    top: usize,
-) -> Option<Loaded>
-    requires space { Space base.now mem.old top }
-    requires room { top ≤ length base.now + length mem.old }
-    requires placed { Placed bytes.now at 1 ty 1 }
+// equal places. The record's own names are the same, byte for byte, and are passed over. The loop is not `load_row`'s:
+// with a name to be read for each field, and a type of its own, one loop for both would be longer than the two.
+#[cycle(load)]
+fn load_record(spot: Spot, depth: usize, memory: &mut Memory) -> Option<Loaded>
+    requires placed { Placed spot.bytes.now spot.at 1 spot.ty 1 }
     requires deep { 0 < depth }
-    ensures kept { Kept top (base.now ++ mem.old) (base.now ++ mem.new) }
-    ensures inside { Inside bytes.now at ty top (base.now ++ mem.new) result }
-    ensures means { LoadsPart parts.Record bytes.now at ty depth top (base.now ++ mem.new) result }
+    ensures frozen { memory.new.kept.now ≡ memory.old.kept.now }
+    ensures kept { Kept memory.old.top (all memory.old) (all memory.new) }
+    ensures inside { Inside spot.entry.bytes.now spot.entry.at spot.entry.ty memory.old.top (all memory.new) (laid memory.new.top result) }
+    ensures means { LoadsPart parts.Record spot.entry.bytes.now spot.entry.at spot.entry.ty depth memory.old.top (all memory.new) (laid memory.new.top result) }
 {
-    let head = names(bytes, ty)?;
-    if bytes.len() - at < head.length {
+    let bytes = spot.bytes;
+    let head = spot.names()?;
+    if bytes.len() - spot.at < head.length {
         return None;
     }
-    if (size(base, mem) - top) / 5 < head.count {
-        return None;
-    }
-    let mut high = top + 5 * head.count;
-    let mut name = ty + 5;
-    let mut next = at + head.length;
-    let mut next_ty = ty + head.length;
+    let start = memory.reserve::<Field>(head.count)?;
+    let mut name = spot.ty + 5;
+    let mut at = spot.at + head.length;
+    let mut ty = spot.ty + head.length;
     for i in 0..head.count {
-        let n = name_length(bytes, name)?;
-        let l = load_data(bytes, next, next_ty, depth - 1, base, mem, high)?;
+        let count = name_length(bytes, name)?;
+        let l = load_data(Spot { bytes, at, ty }, depth - 1, memory)?;
         let field = Field {
             name: Place {
                 start: name + 4,
-                count: n,
+                count,
             },
             value: l.value,
         };
-        store_field(base, mem, top + 5 * i, field);
-        name += 4 + n;
-        next += l.length;
-        next_ty += l.typed;
-        high = l.top;
+        memory.set_nth(start, i, field);
+        name += 4 + count;
+        at += l.length;
+        ty += l.typed;
     }
-    let value = Value::Record(Place {
-        start: top,
-        count: head.count,
-    });
     Some(Loaded {
-        value,
-        top: high,
-        length: next - at,
-        typed: next_ty - ty,
+        value: Value::Record(Place {
+            start,
+            count: head.count,
+        }),
+        length: at - spot.at,
+        typed: ty - spot.ty,
     })
 }
 
-// A value into a slot of its own, if there is room for one; and where free memory begins then.
-fn keep(value: Value, base: &[u64], mem: &mut [u64], top: usize) -> Option<usize>
-    requires space { Space base.now mem.old top }
-    requires room { top ≤ length base.now + length mem.old }
-    ensures { Keeps value top (base.now ++ mem.old) (base.now ++ mem.new) result }
+// Loads a side of an either, and then its value into a slot of its own.
+#[cycle(load)]
+fn load_side(spot: Spot, side: Side, depth: usize, memory: &mut Memory) -> Option<Loaded>
+    requires placed { Placed spot.bytes.now spot.at 1 spot.ty 1 }
+    requires deep { 0 < depth }
+    ensures frozen { memory.new.kept.now ≡ memory.old.kept.now }
+    ensures kept { Kept memory.old.top (all memory.old) (all memory.new) }
+    ensures inside { Inside spot.entry.bytes.now spot.entry.at spot.entry.ty memory.old.top (all memory.new) (laid memory.new.top result) }
+    ensures means { LoadsPart (parts.Either side) spot.entry.bytes.now spot.entry.at spot.entry.ty depth memory.old.top (all memory.new) (laid memory.new.top result) }
 {
-    if size(base, mem) - top < 3 {
-        return None;
+    let bytes = spot.bytes;
+    let ty = spot.ty + 1;
+    let before = types_before(bytes, ty, side);
+    let own = Spot {
+        bytes,
+        at: spot.at + 1,
+        ty: ty + before,
+    };
+    let l = load_data(own, depth - 1, memory)?;
+    let slot = memory.push(l.value)?;
+    match side {
+        Side::Left => Some(Loaded {
+            value: Value::Left(slot),
+            length: 1 + l.length,
+            typed: 1 + l.typed + type_length(bytes, ty + l.typed),
+        }),
+        Side::Right => Some(Loaded {
+            value: Value::Right(slot),
+            length: 1 + l.length,
+            typed: 1 + before + l.typed,
+        }),
     }
-    store(base, mem, top, value);
-    Some(top + 3)
-}
-
-// Loads the left side of an either, and the slot that it has there.
-#[cycle(load_bag_load_data_load_left_load_record_load_right)]
-fn load_left(
-    bytes: &[u8],
-    at: usize,
-    ty: usize,
-    depth: usize,
-    base: &[u64],
-    mem: &mut [u64],
-    top: usize,
-) -> Option<Loaded>
-    requires space { Space base.now mem.old top }
-    requires room { top ≤ length base.now + length mem.old }
-    requires placed { Placed bytes.now at 1 ty 1 }
-    requires deep { 0 < depth }
-    ensures kept { Kept top (base.now ++ mem.old) (base.now ++ mem.new) }
-    ensures inside { Inside bytes.now at ty top (base.now ++ mem.new) result }
-    ensures means { LoadsPart parts.Left bytes.now at ty depth top (base.now ++ mem.new) result }
-{
-    let l = load_data(bytes, at + 1, ty + 1, depth - 1, base, mem, top)?;
-    let end = keep(l.value, base, mem, l.top)?;
-    let other = type_length(bytes, ty + 1 + l.typed);
-    Some(Loaded {
-        value: Value::Left(l.top),
-        top: end,
-        length: 1 + l.length,
-        typed: 1 + l.typed + other,
-    })
-}
-
-// Loads the right side of an either, and the slot that it has there.
-#[cycle(load_bag_load_data_load_left_load_record_load_right)]
-fn load_right(
-    bytes: &[u8],
-    at: usize,
-    ty: usize,
-    depth: usize,
-    base: &[u64],
-    mem: &mut [u64],
-    top: usize,
-) -> Option<Loaded>
-    requires space { Space base.now mem.old top }
-    requires room { top ≤ length base.now + length mem.old }
-    requires placed { Placed bytes.now at 1 ty 1 }
-    requires deep { 0 < depth }
-    ensures kept { Kept top (base.now ++ mem.old) (base.now ++ mem.new) }
-    ensures inside { Inside bytes.now at ty top (base.now ++ mem.new) result }
-    ensures means { LoadsPart parts.Right bytes.now at ty depth top (base.now ++ mem.new) result }
-{
-    let other = type_length(bytes, ty + 1);
-    let l = load_data(bytes, at + 1, ty + 1 + other, depth - 1, base, mem, top)?;
-    let end = keep(l.value, base, mem, l.top)?;
-    Some(Loaded {
-        value: Value::Right(l.top),
-        top: end,
-        length: 1 + l.length,
-        typed: 1 + other + l.typed,
-    })
 }

@@ -4,9 +4,9 @@ ghost use Rattle.query.specs.Data.{Data};
 ghost use Rattle.query.specs.Query.{Ty, Tys, a_rec};
 ghost use Rattle.format.specs.Wire.{data_of, types, write_ty, FitsData, FitsTy};
 ghost use Rattle.format.specs.Nodes.{Stands};
-ghost use Rattle.loading.specs.Fronts.{PartInside, Tells, NamesInside, TellsNames, NameInside, TellsName};
+ghost use Rattle.loading.specs.Fronts.{Before, FrontInside, TellsFront, NamesInside, TellsNames, NameInside, TellsName};
 
-use crate::loaded::{Names, Part};
+use crate::loaded::{Names, Part, Side, Spot};
 use format::data::data_node;
 use format::name::read_name;
 use format::node::{DataNode, TypeNode};
@@ -14,66 +14,24 @@ use format::sort::scan;
 use format::types::{Types, type_node};
 use values::value::{Place, Value};
 
-// What stands in front of the datum at a place.
-pub fn part(bytes: &[u8], at: usize) -> Part
-    requires { at ≤ length bytes.now }
-    ensures inside { PartInside (length bytes.now) at result }
-    ensures tells { (d : Data) → Stands data_of bytes.now at d → FitsData d → Tells bytes.now result d }
-{
-    if at == bytes.len() {
-        return Part::NoDatum;
-    }
-    if bytes[at] == 6 {
-        return Part::Record;
-    }
-    match data_node(&bytes[at..]) {
-        Ok(o) => match o.head {
-            DataNode::Nothing => Part::Plain(Value::Nothing, o.length),
-            DataNode::Number(n) => Part::Plain(Value::Number(n), o.length),
-            DataNode::Truth(b) => Part::Plain(Value::Truth(b), o.length),
-            DataNode::Text(n) => Part::Plain(
-                Value::Text(Place {
-                    start: at + 5,
-                    count: n,
-                }),
-                o.length,
-            ),
-            DataNode::Bag(k) => Part::Bag(k),
-            DataNode::Record(_) => Part::Record,
-            DataNode::Left => Part::Left,
-            DataNode::Right => Part::Right,
-        },
-        Err(_) => Part::NoDatum,
-    }
-}
-
 // How many bytes the type at a place has.
 pub fn type_length(bytes: &[u8], ty: usize) -> usize
     requires { ty ≤ length bytes.now }
     ensures inside { ty + result ≤ length bytes.now }
     ensures tells { (t : Ty) → Stands types bytes.now ty t → FitsTy t → result ≡ length (write_ty t) }
 {
-    match scan::<Types>(&bytes[ty..], 1) {
-        Ok(length) => length,
-        Err(_) => 0,
-    }
+    scan::<Types>(&bytes[ty..], 1).unwrap_or(0)
 }
 
-// The names of the record's type at a place.
-pub fn names(bytes: &[u8], ty: usize) -> Option<Names>
+// How many bytes of types stand before the type of a side, where the types of both sides stand: the right side's comes after the left one's.
+pub fn types_before(bytes: &[u8], ty: usize, side: Side) -> usize
     requires { ty ≤ length bytes.now }
-    ensures inside { NamesInside (length bytes.now) ty result }
-    ensures tells { (ts : Tys) → Stands types bytes.now ty (a_rec ts) → FitsTy (a_rec ts) → TellsNames result ts }
+    ensures inside { ty + result ≤ length bytes.now }
+    ensures tells { Before bytes.now ty side result }
 {
-    match type_node(&bytes[ty..]) {
-        Ok(o) => match o.head {
-            TypeNode::Record(count) => Some(Names {
-                count,
-                length: o.length,
-            }),
-            _ => None,
-        },
-        Err(_) => None,
+    match side {
+        Side::Left => 0,
+        Side::Right => type_length(bytes, ty),
     }
 }
 
@@ -83,8 +41,52 @@ pub fn name_length(bytes: &[u8], at: usize) -> Option<usize>
     ensures inside { NameInside (length bytes.now) at result }
     ensures tells { TellsName bytes.now at result }
 {
-    match read_name(&bytes[at..]) {
-        Ok(n) => Some(n),
-        Err(_) => None,
+    read_name(&bytes[at..]).ok()
+}
+
+impl<'a> Spot<'a> {
+    // What stands in front of the datum.
+    pub(crate) fn part(self) -> Option<Part>
+        ensures inside { FrontInside (length self.entry.bytes.now) self.entry.at result }
+        ensures tells { (d : Data) → Stands data_of self.entry.bytes.now self.entry.at d → FitsData d → TellsFront self.entry.bytes.now result d }
+    {
+        if self.at == self.bytes.len() {
+            return None;
+        }
+        if self.bytes[self.at] == 6 {
+            return Some(Part::Record);
+        }
+        let read = data_node(&self.bytes[self.at..]).ok()?;
+        match read.head {
+            DataNode::Nothing => Some(Part::Plain(Value::Nothing, read.length)),
+            DataNode::Number(n) => Some(Part::Plain(Value::Number(n), read.length)),
+            DataNode::Truth(b) => Some(Part::Plain(Value::Truth(b), read.length)),
+            DataNode::Text(n) => Some(Part::Plain(
+                Value::Text(Place {
+                    start: self.at + 5,
+                    count: n,
+                }),
+                read.length,
+            )),
+            DataNode::Bag(k) => Some(Part::Bag(k)),
+            DataNode::Record(_) => Some(Part::Record),
+            DataNode::Left => Some(Part::Either(Side::Left)),
+            DataNode::Right => Some(Part::Either(Side::Right)),
+        }
+    }
+
+    // The names of the type, which is a record's.
+    pub(crate) fn names(self) -> Option<Names>
+        ensures inside { NamesInside (length self.entry.bytes.now) self.entry.ty result }
+        ensures tells { (ts : Tys) → Stands types self.entry.bytes.now self.entry.ty (a_rec ts) → FitsTy (a_rec ts) → TellsNames result ts }
+    {
+        let read = type_node(&self.bytes[self.ty..]).ok()?;
+        match read.head {
+            TypeNode::Record(count) => Some(Names {
+                count,
+                length: read.length,
+            }),
+            _ => None,
+        }
     }
 }

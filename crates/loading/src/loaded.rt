@@ -1,13 +1,45 @@
 // What is told of bytes and of what was loaded from them.
+ghost use Rattle.std.specs.Prelude.{◌≤◌, length};
+
 use values::value::Value;
 
-// A datum that was loaded: its value, where free memory begins after it, how many bytes it has, and how many its type has.
+// Where a datum and its type stand in a request's bytes.
+#[derive(Clone, Copy)]
+pub struct Spot<'a> {
+    pub bytes: &'a [u8],
+    pub at: usize,
+    pub ty: usize,
+    ghost datum_inside: { at ≤ length bytes.now },
+    ghost type_inside: { ty ≤ length bytes.now },
+}
+
+// A datum that was loaded: its value, how many bytes it has, and how many its type has.
 #[derive(Clone, Copy)]
 pub struct Loaded {
     pub value: Value,
-    pub top: usize,
     pub length: usize,
     pub typed: usize,
+}
+
+// How the types of data in a row stand: one for all of them, or one each, in their order.
+#[derive(Clone, Copy)]
+pub enum Typing {
+    Shared,
+    Own,
+}
+
+// Data that were loaded in a row: where their slots begin, and how many bytes they have.
+#[derive(Clone, Copy)]
+pub struct Slots {
+    pub start: usize,
+    pub length: usize,
+}
+
+// Which side of an either a datum is.
+#[derive(Clone, Copy)]
+pub enum Side {
+    Left,
+    Right,
 }
 
 // What stands in front of a datum, as far as it takes to load it.
@@ -19,9 +51,7 @@ pub enum Part {
     Bag(usize),
     // its names are not looked at, since its type has them too
     Record,
-    Left,
-    Right,
-    NoDatum,
+    Either(Side),
 }
 
 // A record's type: how many fields it has, and how many bytes stand before the types of these.

@@ -1,5 +1,5 @@
 -- Data and types as a head and what is written after it, and what stands at a place where a head was read.
-use Rattle.std.proofs.Common.{◌≡◌, ℕ, ◌+◌, ◌-◌, ◌≤◌, List, [], ◌∷◌, ◌++◌, length, drop, sym, refl, ap, ◌∙◌, subst, arith, length-drop, drop-drop}
+use Rattle.std.proofs.Common.{◌≡◌, ℕ, ◌-◌, ◌≤◌, List, [], ◌∷◌, ◌++◌, length, drop, sym, refl, ap, ◌∙◌, arith, length-drop}
 use Rattle.std.proofs.lemmas.List.{append_assoc, append-nil}
 use Rattle.query.specs.Data.{Data, unit, num, truth, text, bag, rec, left, right, how_many}
 use Rattle.query.specs.Query.{Ty, a_unit, a_num, a_truth, a_text, a_bag, a_rec, an_either}
@@ -92,30 +92,33 @@ head_ty_written (a_bag t) = refl
 head_ty_written (a_rec ts) = refl
 head_ty_written (an_either t u) = refl
 
--- what was read at a place is what stands there
-pub front : (H : Coding) → OneWay H → (xs : List ℕ) (at e : ℕ) (h g : H.T) (more : List ℕ) → Begins H (from at xs) e h → H.Fits g → drop at xs ≡ H.write g ++ more → (h ≡ g) × (drop (at + e) xs ≡ more)
-front H way xs at e h g more b f q =
-    let c = subst (λ (v : List ℕ). Begins H v e h) (from_drop at xs) b in
-    let w = way h g (drop e (drop at xs)) more c.fits f (sym (split_at e (drop at xs) (H.write h) c.is) ∙ q) in
-    (w.0, sym (drop-drop e at xs) ∙ w.1)
+-- what was read in front is what stands there
+pub front : (H : Coding) → OneWay H → (xs : List ℕ) (e : ℕ) (h g : H.T) (more : List ℕ) → Begins H xs e h → H.Fits g → xs ≡ H.write g ++ more → (h ≡ g) × (from e xs ≡ more)
+front H way xs e h g more b f q = let w = way h g (drop e xs) more b.fits f (sym (split_at e xs (H.write h) b.is) ∙ q) in (w.0, from_drop e xs ∙ w.1)
 
--- and lies within the bytes
-pub within_from : (xs : List ℕ) (at e : ℕ) → at ≤ length xs → e ≤ length (from at xs) → at + e ≤ length xs
-within_from xs at e h k = let l : length (from at xs) ≡ length xs - at = ap length (from_drop at xs) ∙ length-drop at xs in omega arith
+-- what comes after is no longer
+pub shorter : (e : ℕ) (xs : List ℕ) → length (from e xs) ≤ length xs
+shorter e xs = let l : length (from e xs) ≡ length xs - e = ap length (from_drop e xs) ∙ length-drop e xs in omega arith
 
-apart : (h w : List ℕ) (xs rest : List ℕ) (at : ℕ) (tl : List ℕ) → w ≡ h ++ tl → drop at xs ≡ w ++ rest → drop at xs ≡ h ++ (tl ++ rest)
-apart h w xs rest at tl e q = q ∙ ap (λ (v : List ℕ). v ++ rest) e ∙ append_assoc h tl rest
+apart : (h w xs rest tl : List ℕ) → w ≡ h ++ tl → xs ≡ w ++ rest → xs ≡ h ++ (tl ++ rest)
+apart h w xs rest tl e q = q ∙ ap (λ (v : List ℕ). v ++ rest) e ∙ append_assoc h tl rest
 
-module _ (xs : List ℕ) (at : ℕ) (d : Data) (rest : List ℕ) (f : FitsData d) (q : drop at xs ≡ write_data d ++ rest) where
-  pub data_front : (e : ℕ) (h : DataHead) → Begins data_heads (from at xs) e h → (h ≡ head_of d) × (drop (at + e) xs ≡ tail_of d ++ rest)
-  data_front e h b = front data_heads data_laws.one_way xs at e h (head_of d) (tail_of d ++ rest) b (head_fits d f) (apart (write_data_head (head_of d)) (write_data d) xs rest at (tail_of d) (head_written d) q)
+module _ (xs : List ℕ) (d : Data) (rest : List ℕ) (f : FitsData d) (q : xs ≡ write_data d ++ rest) where
+  data_apart : xs ≡ write_data_head (head_of d) ++ (tail_of d ++ rest)
+  data_apart = apart (write_data_head (head_of d)) (write_data d) xs rest (tail_of d) (head_written d) q
 
-  pub data_some : NoneInFront data_heads (from at xs) → ⊥
-  data_some n = n (head_of d) (tail_of d ++ rest) (head_fits d f) (from_drop at xs ∙ apart (write_data_head (head_of d)) (write_data d) xs rest at (tail_of d) (head_written d) q)
+  pub data_front : (e : ℕ) (h : DataHead) → Begins data_heads xs e h → (h ≡ head_of d) × (from e xs ≡ tail_of d ++ rest)
+  data_front e h b = front data_heads data_laws.one_way xs e h (head_of d) (tail_of d ++ rest) b (head_fits d f) data_apart
 
-module _ (ys : List ℕ) (at : ℕ) (t : Ty) (rest : List ℕ) (f : FitsTy t) (q : drop at ys ≡ write_ty t ++ rest) where
-  pub ty_front : (e : ℕ) (h : TyHead) → Begins ty_heads (from at ys) e h → (h ≡ head_ty t) × (drop (at + e) ys ≡ tail_ty t ++ rest)
-  ty_front e h b = front ty_heads ty_laws.one_way ys at e h (head_ty t) (tail_ty t ++ rest) b (head_ty_fits t f) (apart (write_ty_head (head_ty t)) (write_ty t) ys rest at (tail_ty t) (head_ty_written t) q)
+  pub data_some : NoneInFront data_heads xs → ⊥
+  data_some n = n (head_of d) (tail_of d ++ rest) (head_fits d f) data_apart
 
-  pub ty_some : NoneInFront ty_heads (from at ys) → ⊥
-  ty_some n = n (head_ty t) (tail_ty t ++ rest) (head_ty_fits t f) (from_drop at ys ∙ apart (write_ty_head (head_ty t)) (write_ty t) ys rest at (tail_ty t) (head_ty_written t) q)
+module _ (ys : List ℕ) (t : Ty) (rest : List ℕ) (f : FitsTy t) (q : ys ≡ write_ty t ++ rest) where
+  ty_apart : ys ≡ write_ty_head (head_ty t) ++ (tail_ty t ++ rest)
+  ty_apart = apart (write_ty_head (head_ty t)) (write_ty t) ys rest (tail_ty t) (head_ty_written t) q
+
+  pub ty_front : (e : ℕ) (h : TyHead) → Begins ty_heads ys e h → (h ≡ head_ty t) × (from e ys ≡ tail_ty t ++ rest)
+  ty_front e h b = front ty_heads ty_laws.one_way ys e h (head_ty t) (tail_ty t ++ rest) b (head_ty_fits t f) ty_apart
+
+  pub ty_some : NoneInFront ty_heads ys → ⊥
+  ty_some n = n (head_ty t) (tail_ty t ++ rest) (head_ty_fits t f) ty_apart

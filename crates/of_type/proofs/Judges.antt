@@ -1,5 +1,6 @@
 -- What is told of a datum and its type, from their heads and what is told of their parts.
-use Rattle.std.proofs.Common.{◌≡◌, ℕ, ◌+◌, ◌-◌, ◌<◌, ◌≤◌, Bool, true, false, List, ◌++◌, length, drop, Some, None, Option, sym, refl, ap, ◌∙◌, subst, ap₂, arith, length-append, length-drop}
+use Rattle.std.proofs.Common.{◌≡◌, ℕ, ◌-◌, ◌<◌, ◌≤◌, Bool, true, false, List, ◌++◌, length, Some, None, Option, sym, refl, ap, ◌∙◌, subst, ap₂, arith, length-append}
+use Rattle.std.specs.Option.{is_some}
 use Rattle.query.specs.Data.{Data, bag, rec, left, right, Datas, Fields}
 use Rattle.query.specs.Query.{Ty, a_unit, a_num, a_truth, a_text, a_bag, a_rec, an_either, Tys}
 use Rattle.query.specs.Types.{elem, sides_of, on_one, is_of, all_of, tables_are}
@@ -7,10 +8,10 @@ use Rattle.query.specs.Size.{size_t, size_s}
 use Rattle.format.specs.Wire.{write_ty, FitsTy, write_data, FitsData, FitsDatas, FitsValues, FitsTys}
 use Rattle.format.specs.declared.node.DataNode.{DataNode}
 use Rattle.format.specs.declared.node.DataNode.TheVariants as dn
-use Rattle.of_type.specs.declared.Ends.{Ends}
+use Rattle.of_type.specs.declared.Both.{Both}
 use Rattle.of_type.specs.declared.Heads.{Heads}
 use Rattle.of_type.specs.Told.{IsOfTold, TablesTold}
-use Rattle.of_type.specs.Places.{Verdict, DatumIs, BagIs, ValuesAre, TypePast, NoParts, Meeting, HeadsMet}
+use Rattle.of_type.specs.Places.{NoLonger, Verdict, DatumIs, BagIs, ValuesAre, Past, TypePast, Meeting, HeadsMet}
 use Rattle.of_type.proofs.Fields.{values, tys, values_fit, tys_fit, values_written, tys_written, tys_size, by_values, rec_is, as_many}
 
 -- a type has a part
@@ -79,45 +80,45 @@ either_fits_ty : (t u v : Ty) → t ≡ an_either u v → FitsTy t → FitsTy u 
 unfolding FitsTy
 either_fits_ty t u v e f = subst FitsTy e f
 
-verdict : (xs ys rest rest' : List ℕ) (b c : Bool) (r : Option Ends) → c ≡ b → Verdict xs ys rest rest' b r → Verdict xs ys rest rest' c r
-verdict xs ys rest rest' b c r e v = subst (λ (w : Bool). Verdict xs ys rest rest' w r) (sym e) v
+verdict : (rest rest' : List ℕ) (b c : Bool) (r : Option Both) → c ≡ b → Verdict rest rest' b r → Verdict rest rest' c r
+verdict rest rest' b c r e v = subst (λ (w : Bool). Verdict rest rest' w r) (sym e) v
+
+no_longer : (b c : Both) (r : Option Both) → length c.datum.now ≤ length b.datum.now → NoLonger c r → NoLonger b r
+no_longer b c None h n = tt
+no_longer b c (Some e) h n = omega (arith, n)
 
 -- no parts left to look at
-pub no_limit : (limit : ℕ) (xs : List ℕ) (at : ℕ) (ys : List ℕ) (fr : ℕ) → limit ≡ 0 → DatumIs limit xs at ys fr None
-no_limit limit xs at ys fr z = record { within = tt; tells = λ d t rest rest' f g p q s. absurd (let y = some_part t in omega arith) }
+pub no_limit : (limit : ℕ) (b : Both) → limit ≡ 0 → DatumIs limit b None
+no_limit limit b z = record { within = tt; tells = λ d t rest rest' f g p q s. absurd (let y = some_part t in omega arith) }
 
--- the heads don't meet
-pub no_heads : (limit : ℕ) (xs : List ℕ) (at : ℕ) (ys : List ℕ) (fr : ℕ) → HeadsMet xs at ys fr None → DatumIs limit xs at ys fr None
-no_heads limit xs at ys fr m = record { within = tt; tells = λ d t rest rest' f g p q s. m.tells d t rest rest' f g p q }
+module _ (limit : ℕ) (b : Both) (h : Heads) (m : HeadsMet b (Some h)) where
+  meeting : (n : DataNode) → h.node ≡ n → (d : Data) (t : Ty) (rest rest' : List ℕ) → FitsData d → FitsTy t → b.datum.now ≡ write_data d ++ rest → b.ty.now ≡ write_ty t ++ rest' → Meeting n d t h.after.datum.now h.after.ty.now rest rest'
+  meeting n e d t rest rest' f g p q = subst (λ (v : DataNode). Meeting v d t h.after.datum.now h.after.ty.now rest rest') e (m.tells d t rest rest' f g p q)
 
-module _ (limit : ℕ) (xs : List ℕ) (at : ℕ) (ys : List ℕ) (fr : ℕ) (h : Heads) (m : HeadsMet xs at ys fr (Some h)) where
-  meeting : (n : DataNode) → h.node ≡ n → (d : Data) (t : Ty) (rest rest' : List ℕ) → FitsData d → FitsTy t → drop at xs ≡ write_data d ++ rest → drop fr ys ≡ write_ty t ++ rest' → Meeting n d t (drop h.datum xs) (drop h.ty ys) rest rest'
-  meeting n e d t rest rest' f g p q = subst (λ (v : DataNode). Meeting v d t (drop h.datum xs) (drop h.ty ys) rest rest') e (m.tells d t rest rest' f g p q)
-
-  pub as_bag : (k : ℕ) (r : Option Ends) → h.node ≡ dn.Bag k → BagIs k (limit - 1) xs h.datum ys h.ty r → DatumIs limit xs at ys fr r
+  pub as_bag : (k : ℕ) (r : Option Both) → h.node ≡ dn.Bag k → BagIs k (limit - 1) h.after r → DatumIs limit b r
   as_bag k r e j =
       record {
-        within = j.within;
+        within = no_longer b h.after r m.within j.within;
         tells = λ d t rest rest' f g p q s.
             let o = meeting (dn.Bag k) e d t rest rest' f g p q in
-            verdict xs ys rest rest' (all_of o.ds o.u) (is_of d t) r (both_is d (bag o.ds) t (a_bag o.u) o.is o.is_ty ∙ bag_is o.ds o.u)
+            verdict rest rest' (all_of o.ds o.u) (is_of d t) r (both_is d (bag o.ds) t (a_bag o.u) o.is o.is_ty ∙ bag_is o.ds o.u)
             (j.tells o.ds o.u rest rest' (o.many, bag_fits d o.ds o.is f) (bag_fits_ty t o.u o.is_ty g) o.after o.after_ty (bag_size t o.u limit o.is_ty s));
       }
 
-  pub as_record : (k : ℕ) (r : Option Ends) → h.node ≡ dn.Record k → ValuesAre k (limit - 1) xs h.datum ys h.ty r → DatumIs limit xs at ys fr r
+  pub as_record : (k : ℕ) (r : Option Both) → h.node ≡ dn.Record k → ValuesAre k (limit - 1) h.after r → DatumIs limit b r
   as_record k r e j =
       record {
-        within = j.within;
+        within = no_longer b h.after r m.within j.within;
         tells = λ d t rest rest' f g p q s.
             let o = meeting (dn.Record k) e d t rest rest' f g p q in
             let fs = o.fs in
             let ts = o.ts in
-            verdict xs ys rest rest' (tables_are (values fs) (tys ts)) (is_of d t) r (both_is d (rec fs) t (a_rec ts) o.is o.is_ty ∙ rec_is fs ts ∙ by_values fs ts o.same_names)
+            verdict rest rest' (tables_are (values fs) (tys ts)) (is_of d t) r (both_is d (rec fs) t (a_rec ts) o.is o.is_ty ∙ rec_is fs ts ∙ by_values fs ts o.same_names)
             (j.tells (values fs) (tys ts) rest rest' (values_fit k fs o.many (rec_fits d fs o.is f)) (tys_fit k ts (sym (ap length o.same_names) ∙ o.many) (rec_fits_ty t ts o.is_ty g))
             (o.after ∙ ap (λ (v : List ℕ). v ++ rest) (values_written fs)) (o.after_ty ∙ ap (λ (v : List ℕ). v ++ rest') (tys_written ts)) (rec_size t ts limit o.is_ty s));
       }
 
-  pub not_left : h.node ≡ dn.Left → DatumIs (limit - 1) xs h.datum ys h.ty None → DatumIs limit xs at ys fr None
+  pub not_left : h.node ≡ dn.Left → DatumIs (limit - 1) h.after None → DatumIs limit b None
   not_left e j =
       record {
         within = tt;
@@ -127,42 +128,35 @@ module _ (limit : ℕ) (xs : List ℕ) (at : ℕ) (ys : List ℕ) (fr : ℕ) (h 
             ∙ j.tells o.x o.u rest (write_ty o.v ++ rest') (left_fits d o.x o.is f) (either_fits_ty t o.u o.v o.is_ty g).0 o.after o.after_ty (either_size t o.u o.v limit o.is_ty s).0;
       }
 
-  module _ (e : h.node ≡ dn.Left) (i : Ends) (j : DatumIs (limit - 1) xs h.datum ys h.ty (Some i)) where
-    pub as_left : (k : ℕ) → TypePast ys i.ty (Some k) → DatumIs limit xs at ys fr (Some record { datum = i.datum; ty = k })
-    as_left k l =
-        record {
-          within = (j.within.0, l.within);
-          tells = λ d t rest rest' f g p q s.
-              let o = meeting dn.Left e d t rest rest' f g p q in
-              let c = either_fits_ty t o.u o.v o.is_ty g in
-              let v = j.tells o.x o.u rest (write_ty o.v ++ rest') (left_fits d o.x o.is f) c.0 o.after o.after_ty (either_size t o.u o.v limit o.is_ty s).0 in
-              (both_is d (left o.x) t (an_either o.u o.v) o.is o.is_ty ∙ left_is o.x o.u o.v ∙ v.0, v.1, l.tells o.v rest' c.1 v.2);
-        }
-
-    pub left_open : TypePast ys i.ty None → DatumIs limit xs at ys fr None
-    left_open l =
-        record {
-          within = tt;
-          tells = λ d t rest rest' f g p q s.
-              let o = meeting dn.Left e d t rest rest' f g p q in
-              let c = either_fits_ty t o.u o.v o.is_ty g in
-              let v = j.tells o.x o.u rest (write_ty o.v ++ rest') (left_fits d o.x o.is f) c.0 o.after o.after_ty (either_size t o.u o.v limit o.is_ty s).0 in
-              absurd (l.tells o.v rest' c.1 v.2);
-        }
+  pub as_left : (i : Both) (r : Option Both) → h.node ≡ dn.Left → DatumIs (limit - 1) h.after (Some i) → TypePast i r → DatumIs limit b r
+  as_left i r e j l =
+      record {
+        within = no_longer b i r (omega (arith, m.within, j.within)) l.within;
+        tells = λ d t rest rest' f g p q s.
+            let o = meeting dn.Left e d t rest rest' f g p q in
+            let c = either_fits_ty t o.u o.v o.is_ty g in
+            let v = j.tells o.x o.u rest (write_ty o.v ++ rest') (left_fits d o.x o.is f) c.0 o.after o.after_ty (either_size t o.u o.v limit o.is_ty s).0 in
+            past i r rest rest' (is_of d t) (both_is d (left o.x) t (an_either o.u o.v) o.is o.is_ty ∙ left_is o.x o.u o.v ∙ v.0) v.1 (l.tells o.v rest' c.1 v.2);
+      }
+    where
+      past : (i : Both) (r : Option Both) (rest rest' : List ℕ) (h : Bool) → h ≡ true → i.datum.now ≡ rest → Past i rest' r → Verdict rest rest' h r
+      past i None rest rest' h y z w = absurd w
+      past i (Some k) rest rest' h y z w = (y, w.0 ∙ z, w.1)
 
   module _ (e : h.node ≡ dn.Right) where
-    pub as_right : (k : ℕ) (r : Option Ends) → TypePast ys h.ty (Some k) → DatumIs (limit - 1) xs h.datum ys k r → DatumIs limit xs at ys fr r
-    as_right k r l j =
+    pub as_right : (i : Both) (r : Option Both) → TypePast h.after (Some i) → DatumIs (limit - 1) i r → DatumIs limit b r
+    as_right i r l j =
         record {
-          within = j.within;
+          within = no_longer b i r (omega (arith, m.within, l.within)) j.within;
           tells = λ d t rest rest' f g p q s.
               let o = meeting dn.Right e d t rest rest' f g p q in
               let c = either_fits_ty t o.u o.v o.is_ty g in
-              verdict xs ys rest rest' (is_of o.x o.v) (is_of d t) r (both_is d (right o.x) t (an_either o.u o.v) o.is o.is_ty ∙ right_is o.x o.u o.v)
-              (j.tells o.x o.v rest rest' (right_fits d o.x o.is f) c.1 o.after (l.tells o.u (write_ty o.v ++ rest') c.0 o.after_ty) (either_size t o.u o.v limit o.is_ty s).1);
+              let v = l.tells o.u (write_ty o.v ++ rest') c.0 o.after_ty in
+              verdict rest rest' (is_of o.x o.v) (is_of d t) r (both_is d (right o.x) t (an_either o.u o.v) o.is o.is_ty ∙ right_is o.x o.u o.v)
+              (j.tells o.x o.v rest rest' (right_fits d o.x o.is f) c.1 (v.0 ∙ o.after) v.1 (either_size t o.u o.v limit o.is_ty s).1);
         }
 
-    pub right_open : TypePast ys h.ty None → DatumIs limit xs at ys fr None
+    pub right_open : TypePast h.after None → DatumIs limit b None
     right_open l =
         record {
           within = tt;
@@ -171,46 +165,18 @@ module _ (limit : ℕ) (xs : List ℕ) (at : ℕ) (ys : List ℕ) (fr : ℕ) (h 
               absurd (l.tells o.u (write_ty o.v ++ rest') (either_fits_ty t o.u o.v o.is_ty g).0 o.after_ty);
         }
 
-  -- what has no parts is told by its head
-  pub as_plain : ((k : ℕ) → h.node ≡ dn.Bag k → ⊥) → ((k : ℕ) → h.node ≡ dn.Record k → ⊥) → (h.node ≡ dn.Left → ⊥) → (h.node ≡ dn.Right → ⊥) → DatumIs limit xs at ys fr (Some record { datum = h.datum; ty = h.ty })
-  as_plain nb nr nl nt =
-      record {
-        within = (m.within.0, m.within.1);
-        tells = λ d t rest rest' f g p q s. let o = plain h.node nb nr nl nt d t (drop h.datum xs) (drop h.ty ys) rest rest' (m.tells d t rest rest' f g p q) in (o.holds, o.after, o.after_ty);
-      }
-    where
-      plain : (n : DataNode) → ((k : ℕ) → n ≡ dn.Bag k → ⊥) → ((k : ℕ) → n ≡ dn.Record k → ⊥) → (n ≡ dn.Left → ⊥) → (n ≡ dn.Right → ⊥) → (d : Data) (t : Ty) (us vs rest rest' : List ℕ) → Meeting n d t us vs rest rest' → NoParts d t us vs rest rest'
-      plain dn.Nothing b r l s d t us vs rest rest' o = o
-      plain (dn.Number n) b r l s d t us vs rest rest' o = o
-      plain (dn.Truth c) b r l s d t us vs rest rest' o = o
-      plain (dn.Text n) b r l s d t us vs rest rest' o = o
-      plain (dn.Bag k) b r l s d t us vs rest rest' o = absurd (b k refl)
-      plain (dn.Record k) b r l s d t us vs rest rest' o = absurd (r k refl)
-      plain dn.Left b r l s d t us vs rest rest' o = absurd (l refl)
-      plain dn.Right b r l s d t us vs rest rest' o = absurd (s refl)
-
 -- from the start of the bytes
-pub told_so : (limit : ℕ) (xs ys : List ℕ) (i : Ends) → DatumIs limit xs 0 ys 0 (Some i) → IsOfTold limit xs ys (Some i.datum)
-told_so limit xs ys i j =
+pub told_so : (limit : ℕ) (b i : Both) → DatumIs limit b (Some i) → IsOfTold limit b.datum.now b.ty.now (Some (length b.datum.now - length i.datum.now))
+told_so limit b i j =
     record {
-      within = j.within.0;
-      tells = λ d t rest rest' f g p q s. let v = j.tells d t rest rest' f g p q s in (v.0, by_length (write_data d) rest i.datum p j.within.0 v.1);
+      within = omega arith;
+      tells = λ d t rest rest' f g p q s. let v = j.tells d t rest rest' f g p q s in (v.0, omega (arith, ap length p, length-append (write_data d) rest, ap length v.1));
     }
-  where
-    by_length : (w rest : List ℕ) (e : ℕ) → xs ≡ w ++ rest → e ≤ length xs → drop e xs ≡ rest → e ≡ length w
-    by_length w rest e p h q =
-        let a : length xs ≡ length w + length rest = ap length p ∙ length-append w rest in
-        let b : length xs - e ≡ length rest = sym (length-drop e xs) ∙ ap length q in
-        omega arith
 
-pub told_not : (limit : ℕ) (xs ys : List ℕ) → DatumIs limit xs 0 ys 0 None → IsOfTold limit xs ys None
-told_not limit xs ys j = record { within = tt; tells = λ d t rest rest' f g p q s. j.tells d t rest rest' f g p q s }
-
-pub tables_so : (limit k n : ℕ) (xs ys : List ℕ) (i : Ends) → k ≡ n → ValuesAre k limit xs 0 ys 0 (Some i) → TablesTold limit xs k ys n true
-tables_so limit k n xs ys i e j = record { tells = λ ts ss rest rest' f g p q s. sym (j.tells ts ss rest rest' f (g.0 ∙ sym e, g.1) p q s).0 }
-
-pub tables_not : (limit k n : ℕ) (xs ys : List ℕ) → k ≡ n → ValuesAre k limit xs 0 ys 0 None → TablesTold limit xs k ys n false
-tables_not limit k n xs ys e j = record { tells = λ ts ss rest rest' f g p q s. sym (j.tells ts ss rest rest' f (g.0 ∙ sym e, g.1) p q s) }
+-- as many tables as types
+pub tables_told : (limit k n : ℕ) (b : Both) (r : Option Both) → k ≡ n → ValuesAre k limit b r → TablesTold limit b.datum.now k b.ty.now n (is_some r)
+tables_told limit k n b None e j = record { tells = λ ts ss rest rest' f g p q s. sym (j.tells ts ss rest rest' f (g.0 ∙ sym e, g.1) p q s) }
+tables_told limit k n b (Some i) e j = record { tells = λ ts ss rest rest' f g p q s. sym (j.tells ts ss rest rest' f (g.0 ∙ sym e, g.1) p q s).0 }
 
 pub tables_other : (limit k n : ℕ) (xs ys : List ℕ) → (k ≡ n → ⊥) → TablesTold limit xs k ys n false
 tables_other limit k n xs ys h = record { tells = λ ts ss rest rest' f g p q s. sym (as_many ts ss (λ e. h (sym f.0 ∙ e ∙ g.0))) }

@@ -1,3 +1,4 @@
+pub mod Taken
 pub mod Fronts
 pub mod SameKind
 pub mod Fields

@@ -1,18 +1,18 @@
--- What the heads of a datum and of a type, read at their places, say of both.
-use Rattle.std.proofs.Common.{◌≡◌, ℕ, suc, ◌+◌, ◌-◌, ◌≤◌, Bool, true, false, List, [], ◌∷◌, ◌++◌, length, take, drop, sym, refl, ap, ◌∙◌, subst, ap₂, arith, length-take, drop-drop}
+-- What the heads of a datum and of a type say of both.
+use Rattle.std.proofs.Common.{◌≡◌, ℕ, suc, ◌+◌, ◌-◌, ◌≤◌, Bool, true, false, List, [], ◌∷◌, ◌++◌, length, take, drop, sym, refl, ap, ◌∙◌, subst, ap₂, arith, length-take}
 use Rattle.std.proofs.lemmas.List.{append_assoc, drop-take}
 use Rattle.query.specs.Data.{Data, unit, num, truth, text, bag, rec, left, right, Datas, Fields, how_many}
 use Rattle.query.specs.Query.{Ty, a_unit, a_num, a_truth, a_text, a_rec, an_either, Tys}
 use Rattle.query.specs.Types.{is_of}
 use Rattle.format.specs.Wire.{names, names_ty, write_names, write_ty, FitsTy, write_data, FitsData}
 use Rattle.format.specs.Heads.{DataHead, unit_h, num_h, truth_h, text_h, bag_h, rec_h, left_h, right_h, write_data_head, data_heads, data_arity, write_ty_head, ty_heads, ty_arity}
-use Rattle.format.specs.Reading.{Begins}
 use Rattle.format.specs.Nodes.{NodeRead, TellsData, TellsType}
 use Rattle.format.specs.declared.node.DataNode.{DataNode}
 use Rattle.format.specs.declared.node.DataNode.TheVariants as dn
 use Rattle.format.specs.declared.node.TypeNode.{TypeNode}
-use Rattle.format.specs.Lists.{from, from_drop}
+use Rattle.format.specs.Lists.{from}
 use Rattle.format.specs.NameLaws.{names_way}
+use Rattle.of_type.specs.declared.Kind.TheVariants as kinds
 use Rattle.of_type.specs.Kinds.{kind_of_node, kind_of_type}
 use Rattle.of_type.specs.Places.{NoParts, TwoRecords, TwoSides, Meeting}
 use Rattle.of_type.proofs.Fronts.{head_of, tail_of, head_ty, tail_ty, data_front, ty_front}
@@ -84,58 +84,55 @@ module _ (d : Data) (t : Ty) (us vs rest rest' : List ℕ) (f : FitsData d) (a :
 
   pub meets : (n : DataNode) → TellsData n (head_of d) → kind_of_node n ≡ kind_ty (head_ty t) → ((k : ℕ) → n ≡ dn.Record k → TwoRecords k d t us vs rest rest') → Meeting n d t us vs rest rest'
   unfolding OfHead
-  meets dn.Nothing e k r = no_parts unit a_unit (at_head unit_h d e) (at_kind 0 t (sym k)) refl refl (λ g. unit_is)
-  meets (dn.Number n) e k r = no_parts (num n) a_num (at_head (num_h n) d e) (at_kind 1 t (sym k)) refl refl (num_is n)
-  meets (dn.Truth c) e k r = no_parts (truth c) a_truth (at_head (truth_h c) d e) (at_kind 2 t (sym k)) refl refl (λ g. truth_is c)
-  meets (dn.Text n) e k r = no_parts (text e.0) a_text (at_head (text_h e.0) d e.1) (at_kind 3 t (sym k)) refl refl (text_is e.0)
+  meets dn.Nothing e k r = no_parts unit a_unit (at_head unit_h d e) (at_kind kinds.Nothing t (sym k)) refl refl (λ g. unit_is)
+  meets (dn.Number n) e k r = no_parts (num n) a_num (at_head (num_h n) d e) (at_kind kinds.Number t (sym k)) refl refl (num_is n)
+  meets (dn.Truth c) e k r = no_parts (truth c) a_truth (at_head (truth_h c) d e) (at_kind kinds.Truth t (sym k)) refl refl (λ g. truth_is c)
+  meets (dn.Text n) e k r = no_parts (text e.0) a_text (at_head (text_h e.0) d e.1) (at_kind kinds.Text t (sym k)) refl refl (text_is e.0)
   meets (dn.Bag n) e k r =
       let p = at_head (bag_h n) d e in
-      let q = at_kind 4 t (sym k) in
+      let q = at_kind kinds.Bag t (sym k) in
       record { ds = p.0; u = q.0; is = p.1; is_ty = q.1; many = p.2; after = a ∙ ap (λ (w : Data). tail_of w ++ rest) p.1; after_ty = b ∙ ap (λ (w : Ty). tail_ty w ++ rest') q.1 }
   meets (dn.Record n) e k r = r n refl
-  meets dn.Left e k r = let p = at_head left_h d e in let q = at_kind 6 t (sym k) in two_sides left p.0 q.0 q.1 p.1 refl q.2
-  meets dn.Right e k r = let p = at_head right_h d e in let q = at_kind 6 t (sym k) in two_sides right p.0 q.0 q.1 p.1 refl q.2
+  meets dn.Left e k r = let p = at_head left_h d e in let q = at_kind kinds.Either t (sym k) in two_sides left p.0 q.0 q.1 p.1 refl q.2
+  meets dn.Right e k r = let p = at_head right_h d e in let q = at_kind kinds.Either t (sym k) in two_sides right p.0 q.0 q.1 p.1 refl q.2
 
 -- the bytes after a head's tag, as a callee is handed them
-block : (xs : List ℕ) (at e x : ℕ) (w : List ℕ) → take e (drop at xs) ≡ x ∷ w → take ((at + e) - (at + 1)) (drop (at + 1) xs) ≡ w
-block xs at e x w h =
-    let m = (at + e) - (at + 1) in
-    let l : length (take e (drop at xs)) ≡ suc (length w) = ap length h in
-    let g : length (take e (drop at xs)) ≤ e = simp length-take (omega arith) in
-    let n : 1 + m ≡ e = omega arith in
-    ap (λ (v : List ℕ). take m v) (sym (drop-drop 1 at xs)) ∙ sym (drop-take 1 m (drop at xs)) ∙ ap (λ (i : ℕ). drop 1 (take i (drop at xs))) n ∙ ap (λ (v : List ℕ). drop 1 v) h
+block : (xs : List ℕ) (e x : ℕ) (w : List ℕ) → take e xs ≡ x ∷ w → take (e - 1) (drop 1 xs) ≡ w
+block xs e x w h =
+    let l : length (take e xs) ≡ suc (length w) = ap length h in
+    let g : length (take e xs) ≤ e = simp length-take (omega arith) in
+    let n : 1 + (e - 1) ≡ e = omega arith in
+    sym (drop-take 1 (e - 1) xs) ∙ ap (λ (i : ℕ). drop 1 (take i xs)) n ∙ ap (λ (v : List ℕ). drop 1 v) h
 
-module _ (xs : List ℕ) (at : ℕ) (ys : List ℕ) (fr : ℕ) (node : DataNode) (k e : ℕ) (tnode : TypeNode) (k' e' : ℕ) (nd : NodeRead data_heads data_arity TellsData (from at xs) node k e) (nt : NodeRead ty_heads ty_arity TellsType (from fr ys) tnode k' e')
-    (d : Data) (t : Ty) (rest rest' : List ℕ) (f : FitsData d) (g : FitsTy t) (p : drop at xs ≡ write_data d ++ rest) (q : drop fr ys ≡ write_ty t ++ rest') where
+module _ (xs ys : List ℕ) (node : DataNode) (k e : ℕ) (tnode : TypeNode) (k' e' : ℕ) (nd : NodeRead data_heads data_arity TellsData xs node k e) (nt : NodeRead ty_heads ty_arity TellsType ys tnode k' e')
+    (d : Data) (t : Ty) (rest rest' : List ℕ) (f : FitsData d) (g : FitsTy t) (p : xs ≡ write_data d ++ rest) (q : ys ≡ write_ty t ++ rest') where
   of_node : kind_of_node node ≡ kind (head_of d)
-  of_node = told_kind node nd.thing nd.says.0 ∙ ap kind (data_front xs at d rest f p e nd.thing nd.begins).0
+  of_node = told_kind node nd.thing nd.says.0 ∙ ap kind (data_front xs d rest f p e nd.thing nd.begins).0
 
   of_type : kind_of_type tnode ≡ kind_ty (head_ty t)
-  of_type = told_kind_ty tnode nt.thing nt.says.0 ∙ ap kind_ty (ty_front ys fr t rest' g q e' nt.thing nt.begins).0
+  of_type = told_kind_ty tnode nt.thing nt.says.0 ∙ ap kind_ty (ty_front ys t rest' g q e' nt.thing nt.begins).0
 
   -- of two kinds
   pub kinds_differ : (kind_of_node node ≡ kind_of_type tnode → ⊥) → is_of d t ≡ false
   kinds_differ h = or_false (is_of d t) (λ o. h (of_node ∙ same_kind d t o ∙ sym of_type))
 
-  names_block : (fs : Fields) → d ≡ rec fs → take ((at + e) - (at + 1)) (drop (at + 1) xs) ≡ write_names (names fs)
+  names_block : (fs : Fields) → d ≡ rec fs → take (e - 1) (drop 1 xs) ≡ write_names (names fs)
   unfolding write_data_head
   names_block fs r =
-      let b = subst (λ (v : List ℕ). Begins data_heads v e nd.thing) (from_drop at xs) nd.begins in
-      block xs at e 6 (write_names (names fs)) (b.is ∙ ap write_data_head ((data_front xs at d rest f p e nd.thing nd.begins).0 ∙ ap head_of r))
+      block xs e 6 (write_names (names fs)) (nd.begins.is ∙ ap write_data_head ((data_front xs d rest f p e nd.thing nd.begins).0 ∙ ap head_of r))
 
-  names_block_ty : (ts : Tys) → t ≡ a_rec ts → take ((fr + e') - (fr + 1)) (drop (fr + 1) ys) ≡ write_names (names_ty ts)
+  names_block_ty : (ts : Tys) → t ≡ a_rec ts → take (e' - 1) (drop 1 ys) ≡ write_names (names_ty ts)
   unfolding write_ty_head
   names_block_ty ts r =
-      let b = subst (λ (v : List ℕ). Begins ty_heads v e' nt.thing) (from_drop fr ys) nt.begins in
-      block ys fr e' 5 (write_names (names_ty ts)) (b.is ∙ ap write_ty_head ((ty_front ys fr t rest' g q e' nt.thing nt.begins).0 ∙ ap head_ty r))
+      block ys e' 5 (write_names (names_ty ts)) (nt.begins.is ∙ ap write_ty_head ((ty_front ys t rest' g q e' nt.thing nt.begins).0 ∙ ap head_ty r))
 
   told : TellsData node (head_of d)
-  told = subst (λ (h : DataHead). TellsData node h) (data_front xs at d rest f p e nd.thing nd.begins).0 nd.says.0
+  told = subst (λ (h : DataHead). TellsData node h) (data_front xs d rest f p e nd.thing nd.begins).0 nd.says.0
 
   -- of one kind, and no record
-  pub kinds_meet : kind_of_node node ≡ kind_of_type tnode → ((n : ℕ) → node ≡ dn.Record n → ⊥) → Meeting node d t (drop (at + e) xs) (drop (fr + e') ys) rest rest'
+  pub kinds_meet : kind_of_node node ≡ kind_of_type tnode → ((n : ℕ) → node ≡ dn.Record n → ⊥) → Meeting node d t (from e xs) (from e' ys) rest rest'
   kinds_meet h r =
-      meets d t (drop (at + e) xs) (drop (fr + e') ys) rest rest' f (data_front xs at d rest f p e nd.thing nd.begins).1 (ty_front ys fr t rest' g q e' nt.thing nt.begins).1 node told (h ∙ of_type) (λ n s. absurd (r n s))
+      meets d t (from e xs) (from e' ys) rest rest' f (data_front xs d rest f p e nd.thing nd.begins).1 (ty_front ys t rest' g q e' nt.thing nt.begins).1 node told (h ∙ of_type) (λ n s. absurd (r n s))
 
   module _ (n : ℕ) (r : node ≡ dn.Record n) (h : kind_of_node node ≡ kind_of_type tnode) where
     told_record : TellsData (dn.Record n) (head_of d)
@@ -146,10 +143,10 @@ module _ (xs : List ℕ) (at : ℕ) (ys : List ℕ) (fr : ℕ) (node : DataNode)
     as_rec = at_head (rec_h told_record.0) d told_record.1
 
     as_rec_ty : (ts : Tys) × (t ≡ a_rec ts)
-    as_rec_ty = at_kind 5 t (sym of_type ∙ sym h ∙ ap kind_of_node r)
+    as_rec_ty = at_kind kinds.Record t (sym of_type ∙ sym h ∙ ap kind_of_node r)
 
     -- with other names
-    pub names_differ : (take ((at + e) - (at + 1)) (drop (at + 1) xs) ≡ take ((fr + e') - (fr + 1)) (drop (fr + 1) ys) → ⊥) → is_of d t ≡ false
+    pub names_differ : (take (e - 1) (drop 1 xs) ≡ take (e' - 1) (drop 1 ys) → ⊥) → is_of d t ≡ false
     names_differ z =
         let fs = as_rec.0 in
         let ts = as_rec_ty.0 in
@@ -159,7 +156,7 @@ module _ (xs : List ℕ) (at : ℕ) (ys : List ℕ) (fr : ℕ) (node : DataNode)
         ∙ sym (names_block_ty ts as_rec_ty.1)))
 
     -- with the same
-    pub names_meet : take ((at + e) - (at + 1)) (drop (at + 1) xs) ≡ take ((fr + e') - (fr + 1)) (drop (fr + 1) ys) → Meeting node d t (drop (at + e) xs) (drop (fr + e') ys) rest rest'
+    pub names_meet : take (e - 1) (drop 1 xs) ≡ take (e' - 1) (drop 1 ys) → Meeting node d t (from e xs) (from e' ys) rest rest'
     unfolding FitsData FitsTy
     names_meet z =
         let fs = as_rec.0 in
@@ -168,5 +165,5 @@ module _ (xs : List ℕ) (at : ℕ) (ys : List ℕ) (fr : ℕ) (node : DataNode)
         let ff = subst FitsData as_rec.1 f in
         let gg = subst FitsTy as_rec_ty.1 g in
         let s = (names_way (names fs) (names_ty ts) [] [] ff.0 gg.0 (ap (λ (v : List ℕ). v ++ []) w)).0 in
-        subst (λ (v : DataNode). Meeting v d t (drop (at + e) xs) (drop (fr + e') ys) rest rest') (sym r)
-        (two_records d t (drop (at + e) xs) (drop (fr + e') ys) rest rest' f (data_front xs at d rest f p e nd.thing nd.begins).1 (ty_front ys fr t rest' g q e' nt.thing nt.begins).1 n fs ts as_rec.1 as_rec_ty.1 s (ap length as_rec.2 ∙ told_record.2))
+        subst (λ (v : DataNode). Meeting v d t (from e xs) (from e' ys) rest rest') (sym r)
+        (two_records d t (from e xs) (from e' ys) rest rest' f (data_front xs d rest f p e nd.thing nd.begins).1 (ty_front ys t rest' g q e' nt.thing nt.begins).1 n fs ts as_rec.1 as_rec_ty.1 s (ap length as_rec.2 ∙ told_record.2))

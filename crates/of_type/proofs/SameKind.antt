@@ -1,5 +1,5 @@
 -- Kinds: those of heads are those of what they head, and what is of a type is of its kind.
-use Rattle.std.proofs.Common.{◌≡◌, ℕ, zero, suc, ◌^◌, Bool, true, ltb, List, [], ◌∷◌, sym, refl, ap, subst, lt-ltb}
+use Rattle.std.proofs.Common.{◌≡◌, ℕ, ◌^◌, Bool, true, ltb, List, [], ◌∷◌, sym, refl, ap, subst, lt-ltb}
 use mathlib.Core.Bool.{false≢true}
 use Rattle.query.specs.Data.{Data, unit, num, truth, text, bag, rec, left, right}
 use Rattle.query.specs.Query.{Ty, a_unit, a_num, a_truth, a_text, a_bag, a_rec, an_either, Tys, word}
@@ -13,27 +13,29 @@ use Rattle.format.specs.declared.node.DataNode.{DataNode}
 use Rattle.format.specs.declared.node.DataNode.TheVariants as dn
 use Rattle.format.specs.declared.node.TypeNode.{TypeNode}
 use Rattle.format.specs.declared.node.TypeNode.TheVariants as tn
+use Rattle.of_type.specs.declared.Kind.{Kind}
+use Rattle.of_type.specs.declared.Kind.TheVariants as k
 use Rattle.of_type.specs.Kinds.{kind_of_node, kind_of_type}
 use Rattle.of_type.proofs.Fronts.{head_of, head_ty}
 
-abbrev pub kind : DataHead → ℕ
-kind unit_h = 0
-kind (num_h n) = 1
-kind (truth_h b) = 2
-kind (text_h t) = 3
-kind (bag_h k) = 4
-kind (rec_h ns) = 5
-kind left_h = 6
-kind right_h = 6
+abbrev pub kind : DataHead → Kind
+kind unit_h = k.Nothing
+kind (num_h n) = k.Number
+kind (truth_h b) = k.Truth
+kind (text_h t) = k.Text
+kind (bag_h n) = k.Bag
+kind (rec_h ns) = k.Record
+kind left_h = k.Either
+kind right_h = k.Either
 
-abbrev pub kind_ty : TyHead → ℕ
-kind_ty unit_t = 0
-kind_ty num_t = 1
-kind_ty truth_t = 2
-kind_ty text_t = 3
-kind_ty bag_t = 4
-kind_ty (rec_t ns) = 5
-kind_ty either_t = 6
+abbrev pub kind_ty : TyHead → Kind
+kind_ty unit_t = k.Nothing
+kind_ty num_t = k.Number
+kind_ty truth_t = k.Truth
+kind_ty text_t = k.Text
+kind_ty bag_t = k.Bag
+kind_ty (rec_t ns) = k.Record
+kind_ty either_t = k.Either
 
 pub told_kind : (n : DataNode) (h : DataHead) → TellsData n h → kind_of_node n ≡ kind h
 told_kind dn.Nothing h e = sym (ap kind e)
@@ -55,14 +57,14 @@ told_kind_ty (tn.Record k) h e = sym (ap kind_ty e.1)
 told_kind_ty tn.Either h e = sym (ap kind_ty e)
 
 -- a type by its kind
-abbrev pub OfKind : ℕ → Ty → Type 0
-OfKind zero t = t ≡ a_unit
-OfKind (suc zero) t = t ≡ a_num
-OfKind (suc (suc zero)) t = t ≡ a_truth
-OfKind (suc (suc (suc zero))) t = t ≡ a_text
-OfKind (suc (suc (suc (suc zero)))) t = (u : Ty) × (t ≡ a_bag u)
-OfKind (suc (suc (suc (suc (suc zero))))) t = (ts : Tys) × (t ≡ a_rec ts)
-OfKind (suc (suc (suc (suc (suc (suc n)))))) t = (u : Ty) × (v : Ty) × (t ≡ an_either u v)
+abbrev pub OfKind : Kind → Ty → Type 0
+OfKind k.Nothing t = t ≡ a_unit
+OfKind k.Number t = t ≡ a_num
+OfKind k.Truth t = t ≡ a_truth
+OfKind k.Text t = t ≡ a_text
+OfKind k.Bag t = (u : Ty) × (t ≡ a_bag u)
+OfKind k.Record t = (ts : Tys) × (t ≡ a_rec ts)
+OfKind k.Either t = (u : Ty) × (v : Ty) × (t ≡ an_either u v)
 
 of_kind : (t : Ty) → OfKind (kind_ty (head_ty t)) t
 of_kind a_unit = refl
@@ -73,8 +75,8 @@ of_kind (a_bag u) = (u, refl)
 of_kind (a_rec ts) = (ts, refl)
 of_kind (an_either u v) = (u, v, refl)
 
-pub at_kind : (k : ℕ) (t : Ty) → kind_ty (head_ty t) ≡ k → OfKind k t
-at_kind k t e = subst (λ (v : ℕ). OfKind v t) e (of_kind t)
+pub at_kind : (k : Kind) (t : Ty) → kind_ty (head_ty t) ≡ k → OfKind k t
+at_kind k t e = subst (λ (v : Kind). OfKind v t) e (of_kind t)
 
 -- what is of a type is of its kind
 on_one_out : {A : Type 0} (l : List A) (f : A → Bool) → on_one l f ≡ true → (a : A) × (m : List A) × (l ≡ a ∷ m)

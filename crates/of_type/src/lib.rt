@@ -1,7 +1,7 @@
 // Whether data are of their types, told from the bytes of both.
 #![tactic(auto)]
 
-ghost use Rattle.std.specs.Prelude.{◌≡◌, ◌≤◌, length, Decides};
+ghost use Rattle.std.specs.Prelude.{◌≡◌, length};
 ghost use Rattle.of_type.specs.Told.{IsOfTold, TablesTold};
 ghost use Rattle.of_type.specs.Places.{DatumIs, BagIs, ValuesAre, TypePast, HeadsMet};
 ghost use Rattle.of_type.specs.Kinds.{kind_of_node, kind_of_type};
@@ -11,19 +11,63 @@ use format::node::{DataNode, TypeNode};
 use format::sort::scan;
 use format::types::{Types, type_node};
 
-// Where a datum and its type end, each counted from the start of its bytes.
+// The bytes still to come, of data and of their types.
 #[derive(Clone, Copy)]
-struct Ends {
-    datum: usize,
-    ty: usize,
+struct Both<'a> {
+    datum: &'a [u8],
+    ty: &'a [u8],
 }
 
-// The heads of a datum and of its type: what the datum is, and where the parts of each begin.
+// The heads of a datum and of its type, if they meet: what the datum is, and the bytes after both.
 #[derive(Clone, Copy)]
-struct Heads {
+struct Heads<'a> {
     node: DataNode,
-    datum: usize,
-    ty: usize,
+    after: Both<'a>,
+}
+
+// What a datum is, so that it can be compared with its type; both sides of an either are one kind.
+#[derive(Clone, Copy, PartialEq, Eq)]
+enum Kind {
+    Nothing,
+    Number,
+    Truth,
+    Text,
+    Bag,
+    Record,
+    Either,
+}
+
+impl From<DataNode> for Kind {
+    ghost from_gives = { λ n k. k ≡ kind_of_node n };
+
+    fn from(node: DataNode) -> Kind {
+        match node {
+            DataNode::Nothing => Kind::Nothing,
+            DataNode::Number(_) => Kind::Number,
+            DataNode::Truth(_) => Kind::Truth,
+            DataNode::Text(_) => Kind::Text,
+            DataNode::Bag(_) => Kind::Bag,
+            DataNode::Record(_) => Kind::Record,
+            DataNode::Left | DataNode::Right => Kind::Either,
+        }
+    }
+}
+
+// What the data of a type are.
+impl From<TypeNode> for Kind {
+    ghost from_gives = { λ n k. k ≡ kind_of_type n };
+
+    fn from(node: TypeNode) -> Kind {
+        match node {
+            TypeNode::Nothing => Kind::Nothing,
+            TypeNode::Number => Kind::Number,
+            TypeNode::Truth => Kind::Truth,
+            TypeNode::Text => Kind::Text,
+            TypeNode::Bag => Kind::Bag,
+            TypeNode::Record(_) => Kind::Record,
+            TypeNode::Either => Kind::Either,
+        }
+    }
 }
 
 // How many bytes the datum in front has, if it is of the type in front.
@@ -31,194 +75,107 @@ struct Heads {
 pub fn is_of(datum: &[u8], ty: &[u8], limit: usize) -> Option<usize>
     ensures { IsOfTold limit datum.now ty.now result }
 {
-    match datum_is(datum, 0, ty, 0, limit) {
-        Some(ends) => Some(ends.datum),
-        None => None,
-    }
+    let after = Both { datum, ty }.datum_is(limit)?;
+    Some(datum.len() - after.datum.len())
 }
 
 // Whether the `count` tables in front are of the `types` types in front, one by one and as many; `limit` is enough for a schema of that many parts.
 pub fn tables_are(tables: &[u8], count: usize, schema: &[u8], types: usize, limit: usize) -> bool
     ensures { TablesTold limit tables.now count schema.now types result }
 {
-    if count != types {
-        return false;
-    }
-    match values_are(tables, 0, schema, 0, count, limit) {
-        Some(_) => true,
-        None => false,
-    }
-}
-
-// The datum at a place against the type at a place. Both ends come out of one walk, so that the next type of a record need not be looked for.
-#[cycle(bag_is_datum_is_values_are)]
-fn datum_is(datum: &[u8], at: usize, ty: &[u8], from: usize, limit: usize) -> Option<Ends>
-    requires { (at ≤ length datum.now) × (from ≤ length ty.now) }
-    ensures { DatumIs limit datum.now at ty.now from result }
-{
-    if limit == 0 {
-        return None;
-    }
-    let heads = heads_meet(datum, at, ty, from)?;
-    match heads.node {
-        DataNode::Bag(count) => bag_is(datum, heads.datum, count, ty, heads.ty, limit - 1),
-        DataNode::Record(count) => values_are(datum, heads.datum, ty, heads.ty, count, limit - 1),
-        DataNode::Left => {
-            let ends = datum_is(datum, heads.datum, ty, heads.ty, limit - 1)?;
-            let end = type_past(ty, ends.ty)?;
-            Some(Ends {
-                datum: ends.datum,
-                ty: end,
-            })
-        }
-        DataNode::Right => {
-            let second = type_past(ty, heads.ty)?;
-            datum_is(datum, heads.datum, ty, second, limit - 1)
-        }
-        _ => Some(Ends {
-            datum: heads.datum,
-            ty: heads.ty,
-        }),
-    }
-}
-
-// `count` data, one after the other, against one type. Each of them finds the type's end on its way; where there is none, the type is passed over instead.
-#[cycle(bag_is_datum_is_values_are)]
-fn bag_is(
-    datum: &[u8],
-    start: usize,
-    count: usize,
-    ty: &[u8],
-    from: usize,
-    limit: usize,
-) -> Option<Ends>
-    requires { (start ≤ length datum.now) × (from ≤ length ty.now) }
-    ensures { BagIs count limit datum.now start ty.now from result }
-{
-    if count == 0 {
-        let end = type_past(ty, from)?;
-        return Some(Ends {
-            datum: start,
-            ty: end,
-        });
-    }
-    let mut at = start;
-    let mut end = from;
-    for _i in 0..count {
-        let ends = datum_is(datum, at, ty, from, limit)?;
-        at = ends.datum;
-        end = ends.ty;
-    }
-    Some(Ends { datum: at, ty: end })
-}
-
-// `count` data against as many types, both one after the other: a record's values, or the tables of a schema.
-#[cycle(bag_is_datum_is_values_are)]
-fn values_are(
-    datum: &[u8],
-    start: usize,
-    ty: &[u8],
-    first: usize,
-    count: usize,
-    limit: usize,
-) -> Option<Ends>
-    requires { (start ≤ length datum.now) × (first ≤ length ty.now) }
-    ensures { ValuesAre count limit datum.now start ty.now first result }
-{
-    let mut at = start;
-    let mut from = first;
-    for _i in 0..count {
-        let ends = datum_is(datum, at, ty, from, limit)?;
-        at = ends.datum;
-        from = ends.ty;
-    }
-    Some(Ends {
-        datum: at,
-        ty: from,
-    })
-}
-
-// Where the type at a place ends.
-fn type_past(ty: &[u8], at: usize) -> Option<usize>
-    requires { at ≤ length ty.now }
-    ensures { TypePast ty.now at result }
-{
-    match scan::<Types>(&ty[at..], 1) {
-        Ok(long) => Some(at + long),
-        Err(_) => None,
-    }
-}
-
-// The heads at two places, if the datum can be of the type by them: they are of one kind, and a record has the names of its type.
-fn heads_meet(datum: &[u8], at: usize, ty: &[u8], from: usize) -> Option<Heads>
-    requires { (at ≤ length datum.now) × (from ≤ length ty.now) }
-    ensures { HeadsMet datum.now at ty.now from result }
-{
-    let Ok(d) = data_node(&datum[at..]) else {
-        return None;
+    let both = Both {
+        datum: tables,
+        ty: schema,
     };
-    let Ok(t) = type_node(&ty[from..]) else {
-        return None;
-    };
-    if node_kind(d.head) != type_kind(t.head) {
-        return None;
+    count == types && both.values_are(count, limit).is_some()
+}
+
+// Each hands on the bytes after the data and the types, if the data are of them: the next type of a record need not be looked for.
+impl<'a> Both<'a> {
+    // The datum in front against the type in front.
+    #[cycle(datum_and_parts)]
+    fn datum_is(self, limit: usize) -> Option<Both<'a>>
+        ensures { DatumIs limit self.entry result }
+    {
+        if limit == 0 {
+            return None;
+        }
+        let heads = self.heads_meet()?;
+        let after = heads.after;
+        match heads.node {
+            DataNode::Bag(count) => after.bag_is(count, limit - 1),
+            DataNode::Record(count) => after.values_are(count, limit - 1),
+            DataNode::Left => after.datum_is(limit - 1)?.past_type(),
+            DataNode::Right => after.past_type()?.datum_is(limit - 1),
+            _ => Some(after),
+        }
     }
-    let values = at + d.length;
-    let types = from + t.length;
-    match d.head {
-        // after the tags stand the names with their count, written alike in both: the same names are the same bytes
-        DataNode::Record(_) => {
-            if !same(&datum[at + 1..values], &ty[from + 1..types]) {
+
+    // `count` data, one after the other, against one type. Each of them finds the type's end on its way; where there is none, the type is passed over instead.
+    // The type stays where `values_are` goes on in it: one function for both would take the choice with it, and be no plainer.
+    #[cycle(datum_and_parts)]
+    fn bag_is(self, count: usize, limit: usize) -> Option<Both<'a>>
+        ensures { BagIs count limit self.entry result }
+    {
+        if count == 0 {
+            return self.past_type();
+        }
+        let mut after = self;
+        for _i in 0..count {
+            let next = Both {
+                datum: after.datum,
+                ty: self.ty,
+            };
+            after = next.datum_is(limit)?;
+        }
+        Some(after)
+    }
+
+    // `count` data against as many types, both one after the other: a record's values, or the tables of a schema.
+    #[cycle(datum_and_parts)]
+    fn values_are(self, count: usize, limit: usize) -> Option<Both<'a>>
+        ensures { ValuesAre count limit self.entry result }
+    {
+        let mut after = self;
+        for _i in 0..count {
+            after = after.datum_is(limit)?;
+        }
+        Some(after)
+    }
+
+    // The type in front passed over.
+    fn past_type(self) -> Option<Both<'a>>
+        ensures { TypePast self.entry result }
+    {
+        let long = scan::<Types>(self.ty, 1).ok()?;
+        Some(Both {
+            datum: self.datum,
+            ty: &self.ty[long..],
+        })
+    }
+
+    // The heads in front, if the datum can be of the type by them: they are of one kind, and a record has the names of its type.
+    fn heads_meet(self) -> Option<Heads<'a>>
+        ensures { HeadsMet self.entry result }
+    {
+        let d = data_node(self.datum).ok()?;
+        let t = type_node(self.ty).ok()?;
+        if Kind::from(d.head) != Kind::from(t.head) {
+            return None;
+        }
+        if let DataNode::Record(_) = d.head {
+            // after the tags stand the names with their count, written alike in both: the same names are the same bytes
+            if self.datum[1..d.length] != self.ty[1..t.length] {
                 return None;
             }
-            Some(Heads {
-                node: d.head,
-                datum: values,
-                ty: types,
-            })
         }
-        _ => Some(Heads {
+        let after = Both {
+            datum: &self.datum[d.length..],
+            ty: &self.ty[t.length..],
+        };
+        Some(Heads {
             node: d.head,
-            datum: values,
-            ty: types,
-        }),
+            after,
+        })
     }
-}
-
-// What a datum is, as a number, so that it can be compared with its type; both sides of an either are one kind.
-fn node_kind(node: DataNode) -> u8
-    ensures { result ≡ kind_of_node node }
-{
-    match node {
-        DataNode::Nothing => 0,
-        DataNode::Number(_) => 1,
-        DataNode::Truth(_) => 2,
-        DataNode::Text(_) => 3,
-        DataNode::Bag(_) => 4,
-        DataNode::Record(_) => 5,
-        DataNode::Left => 6,
-        DataNode::Right => 6,
-    }
-}
-
-// What the data of a type are, as the same numbers.
-fn type_kind(node: TypeNode) -> u8
-    ensures { result ≡ kind_of_type node }
-{
-    match node {
-        TypeNode::Nothing => 0,
-        TypeNode::Number => 1,
-        TypeNode::Truth => 2,
-        TypeNode::Text => 3,
-        TypeNode::Bag => 4,
-        TypeNode::Record(_) => 5,
-        TypeNode::Either => 6,
-    }
-}
-
-// Whether the bytes are the same.
-fn same(a: &[u8], b: &[u8]) -> bool
-    ensures { Decides result (a.now ≡ b.now) }
-{
-    a == b
 }

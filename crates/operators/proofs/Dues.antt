@@ -4,7 +4,7 @@ use Rattle.query.specs.Data.{Data}
 use Rattle.query.specs.Query.{Got, adding, after}
 use Rattle.values.specs.Memory.{Used}
 use Rattle.operators.specs.Means.{CameTo, Stopped, Means}
-use Rattle.operators.specs.declared.came.Came.{Came}
+use Rattle.operators.specs.Came.{Came}
 use Rattle.operators.specs.declared.came.Stop.{Stop}
 use Rattle.operators.proofs.Steps.{after_came, means_stop, means_past, stopped_adding}
 

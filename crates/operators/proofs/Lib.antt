@@ -3,3 +3,4 @@ pub mod Pays
 pub mod Steps
 pub mod OfKind
 pub mod Dues
+pub mod Refusing

@@ -4,10 +4,10 @@ use Rattle.query.specs.Data.{Data}
 use Rattle.query.specs.Query.{Got, came, adding, after, on_list}
 use Rattle.values.specs.Memory.{Used, Grown, Holds}
 use Rattle.values.specs.declared.value.Value.{Value}
-use Rattle.values.specs.declared.value.Made.{Made}
+use Rattle.values.specs.Made.{Made}
 use Rattle.values.specs.Making.{MadeAs}
 use Rattle.operators.specs.Means.{CameTo, Comes, Stopped, Means}
-use Rattle.operators.specs.declared.came.Came.{Came}
+use Rattle.operators.specs.Came.{Came}
 use Rattle.operators.specs.declared.came.Stop.{Stop}
 use Rattle.operators.specs.declared.came.Stop.TheVariants.{Tired, NoRoom, Wrong}
 use Rattle.operators.proofs.Grows.{grown_refl, grown_trans}

@@ -1,3 +1,4 @@
+pub mod Came
 pub mod Means
 pub mod Kinds
 pub mod Applied

@@ -10,7 +10,7 @@ use Rattle.values.specs.declared.value.Value.{Value}
 use Rattle.bounds.specs.Names.{named}
 use Rattle.operators.specs.Applied.{Made1, one_query, one_got, one_type, IsSingle, Made2, two_query, two_got, two_type, IsJoint, price_of}
 use Rattle.operators.specs.Means.{Means}
-use Rattle.operators.specs.declared.came.Came.{Came}
+use Rattle.operators.specs.Came.{Came}
 use Rattle.operators.specs.declared.came.Stop.{Stop}
 use Rattle.operators.specs.declared.op.Single.{Single}
 use Rattle.operators.specs.declared.op.Joint.{Joint}

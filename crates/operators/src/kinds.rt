@@ -1,4 +1,4 @@
-// What a value is, or that it isn't of that kind.
+// What a value is, or that it isn't of that kind. A bag and a record both are places, so one conversion by the type asked for is no plainer.
 ghost use Rattle.std.specs.Prelude.{◌≡◌};
 ghost use Rattle.operators.specs.Kinds.{as_number, as_truth, as_bag, as_record};
 

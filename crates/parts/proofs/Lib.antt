@@ -1,8 +1,9 @@
-pub mod Rows
+pub mod Taken
+pub mod Walk
 pub mod Aparts
-pub mod Naming
 pub mod Owns
-pub mod Wholes
+pub mod Fronts
+pub mod Naming
 pub mod DataParts
 pub mod TypeParts
 pub mod QueryParts

@@ -6,7 +6,7 @@ use Rattle.format.specs.Lists.{from, from_drop}
 use Rattle.parts.specs.declared.counted.Counted.{Counted}
 use Rattle.parts.specs.Counts.{Counts, CountedInFront}
 use Rattle.parts.specs.Heads.{Weighs, BoundedBy, Weighed}
-use Rattle.parts.proofs.Rows.{from_length, drop_front}
+use Rattle.parts.proofs.Walk.{from_length, drop_front}
 
 pub tail_of : (t u : ℕ) (xs ys : List ℕ) → t ∷ xs ≡ u ∷ ys → xs ≡ ys
 tail_of t u xs ys e = cc

@@ -1,9 +1,9 @@
 -- What a query counts, from its head and the queries after it.
-use Rattle.std.proofs.Common.{◌≡◌, ℕ, suc, ◌+◌, List, [], ◌∷◌, ◌++◌, length, Some, None, Option, sym, refl, ap, ◌∙◌, subst, ap₂, arith}
+use Rattle.std.proofs.Common.{◌≡◌, true, ℕ, suc, ◌+◌, ◌⊎◌, inl, inr, List, [], ◌∷◌, ◌++◌, length, Some, None, Option, sym, refl, ap, ◌∙◌, subst, ap₂, arith}
 use Rattle.query.specs.Query.{Op1, Query}
 use Rattle.query.specs.Size.{size_d, size_t, size_1, size_q, sizes}
 use Rattle.format.specs.Coding.{name, counted}
-use Rattle.format.specs.Wire.{write_names, write_ty, write_data, write_1, Fits1, types}
+use Rattle.format.specs.Wire.{write_names, write_ty, write_data, write_1, Fits1, types, queries}
 use Rattle.format.specs.Heads.{first_query, second_query, QueryHead, table_q, it_q, env_q, just_q, two_q, one_q, each_q, keep_q, product_q, matched_q, default_q, left_q, right_q, either_q, then_q, with_env_q, write_query_head, FitsQueryHead, query_heads, query_arity, build_query}
 use Rattle.format.specs.Nodes.{IsOp1, TellsQuery}
 use Rattle.format.specs.declared.node.Unary.{Unary}
@@ -12,7 +12,9 @@ use Rattle.format.specs.declared.node.QueryNode.{QueryNode}
 use Rattle.format.specs.declared.node.QueryNode.TheVariants as qn
 use Rattle.parts.specs.Counts.{total}
 use Rattle.parts.specs.Heads.{operators, written_out, written_size, own_q, Weighs, Weighed}
-use Rattle.parts.proofs.Rows.{total_none}
+use Rattle.parts.proofs.Fronts.{Weights, asks_nothing}
+use Rattle.parts.proofs.Aparts.{query_parted}
+use Rattle.parts.proofs.Walk.{total_none}
 use Rattle.parts.proofs.Owns.{tail_of, weighed_as, Holds}
 
 one_size : (qs : List Query) → length qs ≡ 1 → size_q (first_query qs) ≡ total size_q qs
@@ -44,6 +46,9 @@ query_sizing either_q qs e = omega (arith, two_size qs e)
 query_sizing then_q qs e = omega (arith, two_size qs e)
 query_sizing with_env_q qs e = omega (arith, two_size qs e)
 
+abbrev pub query_weights : Weights
+query_weights = record { S = queries; H = query_heads; arity = query_arity; build = build_query; parted = query_parted; size = size_q; own = own_q; holds = (λ _. true); good = (λ _. true); sizing = query_sizing; holding = (λ h us e. asks_nothing us) }
+
 -- operators on one thing
 size_dot : (n : ℕ) (o : Op1) → IsOp1 (uo.Dot n) o → size_1 o ≡ suc n
 unfolding size_1
@@ -71,14 +76,13 @@ size_plain (uo.Without n) o a b c d s = absurd (c n refl)
 size_plain (uo.Only n) o a b c d s = absurd (d n refl)
 
 module _ (limit : ℕ) (xs : List ℕ) (op : Unary) where
-  pub unary_dot : (n : ℕ) (r : Option ℕ) → op ≡ uo.Dot n → Weighs limit (suc n) r → Weighed operators IsOp1 size_1 limit xs op r
-  unary_dot n r e w = weighed_as operators IsOp1 size_1 limit xs op (suc n) r (λ o s. size_dot n o (subst (λ (v : Unary). IsOp1 v o) e s)) w
-
-  pub unary_field : (n : ℕ) (r : Option ℕ) → op ≡ uo.AsField n → Weighs limit (suc n) r → Weighed operators IsOp1 size_1 limit xs op r
-  unary_field n r e w = weighed_as operators IsOp1 size_1 limit xs op (suc n) r (λ o s. size_field n o (subst (λ (v : Unary). IsOp1 v o) e s)) w
-
-  pub unary_without : (n : ℕ) (r : Option ℕ) → op ≡ uo.Without n → Weighs limit (suc n) r → Weighed operators IsOp1 size_1 limit xs op r
-  unary_without n r e w = weighed_as operators IsOp1 size_1 limit xs op (suc n) r (λ o s. size_without n o (subst (λ (v : Unary). IsOp1 v o) e s)) w
+  pub unary_named : (n : ℕ) (r : Option ℕ) → (op ≡ uo.Dot n) ⊎ (op ≡ uo.AsField n) ⊎ (op ≡ uo.Without n) → Weighs limit (suc n) r → Weighed operators IsOp1 size_1 limit xs op r
+  unary_named n r e w = weighed_as operators IsOp1 size_1 limit xs op (suc n) r (by_name e) w
+    where
+      by_name : (op ≡ uo.Dot n) ⊎ (op ≡ uo.AsField n) ⊎ (op ≡ uo.Without n) → (o : Op1) → IsOp1 op o → size_1 o ≡ suc n
+      by_name (inl e) o s = size_dot n o (subst (λ (v : Unary). IsOp1 v o) e s)
+      by_name (inr (inl e)) o s = size_field n o (subst (λ (v : Unary). IsOp1 v o) e s)
+      by_name (inr (inr e)) o s = size_without n o (subst (λ (v : Unary). IsOp1 v o) e s)
 
   pub unary_plain : (r : Option ℕ) → ((n : ℕ) → op ≡ uo.Dot n → ⊥) → ((n : ℕ) → op ≡ uo.AsField n → ⊥) → ((n : ℕ) → op ≡ uo.Without n → ⊥) → ((n : ℕ) → op ≡ uo.Only n → ⊥) → Weighs limit 1 r → Weighed operators IsOp1 size_1 limit xs op r
   unary_plain r a b c d w = weighed_as operators IsOp1 size_1 limit xs op 1 r (λ o s. size_plain op o a b c d s) w
@@ -141,7 +145,7 @@ module _ (limit : ℕ) (xs : List ℕ) (node : QueryNode) where
         bounded = w.bounded;
       }
 
-  pub own_left : (k : ℕ) → node ≡ qn.OnLeft k → Holds query_heads TellsQuery own_q limit xs node types size_t 0
+  own_left : (k : ℕ) → node ≡ qn.OnLeft k → Holds query_heads TellsQuery own_q limit xs node types size_t 0
   unfolding own_q FitsQueryHead write_query_head
   own_left k e h t rest f s q =
       let s' = told (qn.OnLeft k) h e s in
@@ -149,13 +153,17 @@ module _ (limit : ℕ) (xs : List ℕ) (node : QueryNode) where
       let p : t ∷ xs ≡ 27 ∷ (write_ty u ++ rest) = subst (λ (v : QueryHead). t ∷ xs ≡ write_query_head v ++ rest) s'.1 q in
       record { thing = u; fits = subst FitsQueryHead s'.1 f; is = tail_of t 27 xs (write_ty u ++ rest) p; own_is = ap own_q s'.1 ∙ (let z : size_t u ≡ 0 + size_t u = omega arith in z) }
 
-  pub own_right : (k : ℕ) → node ≡ qn.OnRight k → Holds query_heads TellsQuery own_q limit xs node types size_t 0
+  own_right : (k : ℕ) → node ≡ qn.OnRight k → Holds query_heads TellsQuery own_q limit xs node types size_t 0
   unfolding own_q FitsQueryHead write_query_head
   own_right k e h t rest f s q =
       let s' = told (qn.OnRight k) h e s in
       let u = s'.0 in
       let p : t ∷ xs ≡ 28 ∷ (write_ty u ++ rest) = subst (λ (v : QueryHead). t ∷ xs ≡ write_query_head v ++ rest) s'.1 q in
       record { thing = u; fits = subst FitsQueryHead s'.1 f; is = tail_of t 28 xs (write_ty u ++ rest) p; own_is = ap own_q s'.1 ∙ (let z : size_t u ≡ 0 + size_t u = omega arith in z) }
+
+  pub own_side : ((k : ℕ) × (node ≡ qn.OnLeft k)) ⊎ ((k : ℕ) × (node ≡ qn.OnRight k)) → Holds query_heads TellsQuery own_q limit xs node types size_t 0
+  own_side (inl e) = own_left e.0 e.1
+  own_side (inr e) = own_right e.0 e.1
 
   pub own_just : (k : ℕ) → node ≡ qn.Just k → Holds query_heads TellsQuery own_q limit xs node written_out written_size 0
   unfolding own_q FitsQueryHead write_query_head

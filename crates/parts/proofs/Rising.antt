@@ -8,7 +8,7 @@ use Rattle.format.specs.Lists.{from, from_drop, split_at, front_of}
 use Rattle.format.specs.Bytes.{length_le}
 use Rattle.format.specs.Codings.{name_way}
 use Rattle.parts.specs.Orders.{rising, RiseInFront, NamesTold}
-use Rattle.parts.proofs.Rows.{from_length, drop_front, drop_first}
+use Rattle.parts.proofs.Walk.{from_length, drop_front, drop_first}
 use Rattle.parts.proofs.Naming.{after_count}
 
 -- the bytes of a name that stands in front
@@ -21,9 +21,6 @@ name_same : (xs : List ℕ) (m : ℕ) → ReadAs name xs (4 + m) (λ t. length t
 name_same xs m r p rest f q =
     let w = name_way r.thing p (drop (4 + m) xs) rest r.begins.fits f (sym (split_at (4 + m) xs (name.write r.thing) r.begins.is) ∙ q) in
     (sym (ap length w.0) ∙ r.says, w.1)
-
-pub rise_stuck : (xs : List ℕ) (p : ℕ) → Stuck name xs p → RiseInFront xs None
-rise_stuck xs p t = record { rises = λ m n rest f g q. absurd (t.absent m (name.write n ++ rest) f q); within = tt }
 
 module _ (xs : List ℕ) (m : ℕ) (r : ReadAs name xs (4 + m) (λ t. length t ≡ m)) where
   pub rise_cut : (p : ℕ) → Stuck name (from (4 + m) xs) p → RiseInFront xs None
@@ -62,9 +59,6 @@ pub record NamesLeft (count : ℕ) (xs : List ℕ) (i at : ℕ) (ns : List Name)
 pub record Climbed (count : ℕ) (xs : List ℕ) (i at : ℕ) : Type 0 where
   pub within : at ≤ length xs
   pub left : (ns : List Name) (rest : List ℕ) → (counted name).Fits ns → xs ≡ (counted name).write ns ++ rest → NamesLeft count xs i at ns rest
-
-pub climb_stuck : (xs : List ℕ) (p : ℕ) → Stuck (number 4) xs p → NamesTold xs false
-climb_stuck xs p t ns rest f q = absurd (t.absent (length ns) (writes name ns ++ rest) f.0 (q ∙ append_assoc (le 4 (length ns)) (writes name ns) rest))
 
 pub climb_start : (count : ℕ) (xs : List ℕ) → Begins (number 4) xs 4 count → Climbed count xs 1 4
 climb_start count xs b =

@@ -1,10 +1,29 @@
--- What the head of a query counts besides itself and the queries after it: its operator, names, types and data.
+-- What a head counts besides itself and the things after it: texts, names, operators, types and data.
 use Rattle.std.specs.Prelude.{◌≡◌, ℕ, ◌+◌, ◌<◌, ◌≤◌, List, ◌∷◌, ◌++◌, length, Some, None, Option}
 use Rattle.query.specs.Query.{Op1}
-use Rattle.query.specs.Size.{size_d, size_t, size_1}
+use Rattle.query.specs.Size.{size_d, size_t, size_1, sizes}
 use Rattle.format.specs.Coding.{Coding, both_of}
 use Rattle.format.specs.Wire.{write_1, Fits1, types, data_of}
-use Rattle.format.specs.Heads.{QueryHead, table_q, it_q, env_q, just_q, two_q, one_q, each_q, keep_q, product_q, matched_q, default_q, left_q, right_q, either_q, then_q, with_env_q}
+use Rattle.format.specs.Heads.{DataHead, unit_h, num_h, truth_h, text_h, bag_h, rec_h, left_h, right_h, TyHead, unit_t, num_t, truth_t, text_t, bag_t, rec_t, either_t, QueryHead, table_q, it_q, env_q, just_q, two_q, one_q, each_q, keep_q, product_q, matched_q, default_q, left_q, right_q, either_q, then_q, with_env_q}
+
+unfoldable pub own_d : DataHead → ℕ
+own_d unit_h = 0
+own_d (num_h n) = 0
+own_d (truth_h b) = 0
+own_d (text_h t) = length t
+own_d (bag_h k) = 0
+own_d (rec_h ns) = sizes ns
+own_d left_h = 0
+own_d right_h = 0
+
+unfoldable pub own_t : TyHead → ℕ
+own_t unit_t = 0
+own_t num_t = 0
+own_t truth_t = 0
+own_t text_t = 0
+own_t bag_t = 0
+own_t (rec_t ns) = sizes ns
+own_t either_t = 0
 
 unfoldable pub own_q : QueryHead → ℕ
 own_q (table_q n) = 0

@@ -1,84 +1,56 @@
-// How many parts a datum has that stands in front of bytes, by functions that call each other.
-// Bytes may nest deeper than any stack, so each level takes a part off the limit, and none is walked past it.
+// How many parts a datum has that stands in front of bytes.
+ghost use Rattle.std.specs.Prelude.{true};
 ghost use Rattle.query.specs.Size.{size_d};
-ghost use Rattle.format.specs.Coding.{many};
 ghost use Rattle.format.specs.Wire.{data_of};
-ghost use Rattle.parts.specs.Counts.{total, CountedInFront, fields, fields_size};
+ghost use Rattle.format.specs.Heads.{data_heads};
+ghost use Rattle.format.specs.Nodes.{TellsData};
+ghost use Rattle.parts.specs.Counts.{CountedInFront};
+ghost use Rattle.parts.specs.Heads.{own_d, Weighed};
 
 use crate::counted::Counted;
-use crate::names::names_parts;
-use format::data::data_node;
+use crate::measured::{Front, Measured, measure};
+use crate::names::{names_parts, no_more};
+use format::data::{Data, data_node};
 use format::node::DataNode;
 
+impl Measured for Data {
+    ghost coding = { data_of };
+
+    ghost size = { size_d };
+
+    ghost holds = { λ _. true };
+
+    fn front(bytes: &[u8], limit: usize) -> Option<Front> {
+        if limit == 0 {
+            return None;
+        }
+        let o = data_node(bytes).ok()?;
+        let own = own_parts(&bytes[1..], o.head, limit - 1)?;
+        Some(Front {
+            own: 1 + own,
+            after: o.parts,
+            length: o.length,
+        })
+    }
+}
+
+// What the head of a datum counts besides itself: the bytes of a text, or a record's names. The bytes are those after the tag.
+fn own_parts(bytes: &[u8], node: DataNode, limit: usize) -> Option<usize>
+    ensures { Weighed data_heads TellsData own_d limit bytes.now node result }
+{
+    match node {
+        DataNode::Text(n) => no_more(n, limit),
+        DataNode::Record(_) => {
+            let names = names_parts(bytes, limit)?;
+            Some(names.parts)
+        }
+        _ => Some(0),
+    }
+}
+
 // The parts and the bytes of the datum in front, or nothing if it has more parts than the limit.
-#[cycle(bag_parts_data_parts_record_parts)]
 pub fn data_parts(bytes: &[u8], limit: usize) -> Option<Counted>
     ensures { CountedInFront data_of size_d limit bytes.now result }
 {
-    if limit == 0 {
-        return None;
-    }
-    match data_node(bytes) {
-        Ok(o) => {
-            let start = o.length;
-            match o.head {
-                DataNode::Text(n) => {
-                    if n < limit {
-                        Some(Counted {
-                            parts: 1 + n,
-                            length: start,
-                        })
-                    } else {
-                        None
-                    }
-                }
-                DataNode::Record(_) => {
-                    let inner = record_parts(&bytes[1..], o.parts, limit - 1)?;
-                    Some(Counted {
-                        parts: 1 + inner.parts,
-                        length: 1 + inner.length,
-                    })
-                }
-                // nothing, a bag's data or the one on a side
-                _ => {
-                    let inner = bag_parts(&bytes[start..], o.parts, limit - 1)?;
-                    Some(Counted {
-                        parts: 1 + inner.parts,
-                        length: start + inner.length,
-                    })
-                }
-            }
-        }
-        Err(_) => None,
-    }
-}
-
-// The parts and the bytes of `count` data, one after the other: a bag's, or a record's values.
-#[cycle(bag_parts_data_parts_record_parts)]
-fn bag_parts(bytes: &[u8], count: usize, limit: usize) -> Option<Counted>
-    ensures { CountedInFront (many data_of count) (total size_d) limit bytes.now result }
-{
-    let mut parts: usize = 0;
-    let mut end: usize = 0;
-    for _i in 0..count {
-        let one = data_parts(&bytes[end..], limit - parts)?;
-        parts += one.parts;
-        end += one.length;
-    }
-    Some(Counted { parts, length: end })
-}
-
-// The parts and the bytes of a record's `count` fields: their names after their count, and then their values.
-// A field counts one, each byte of its name, and the parts of its value.
-#[cycle(bag_parts_data_parts_record_parts)]
-fn record_parts(bytes: &[u8], count: usize, limit: usize) -> Option<Counted>
-    ensures { CountedInFront (fields data_of count) (fields_size data_of count size_d) limit bytes.now result }
-{
-    let names = names_parts(bytes, limit)?;
-    let end = names.length;
-    let values = bag_parts(&bytes[end..], count, limit - names.parts)?;
-    Some(Counted {
-        parts: names.parts + values.parts,
-        length: end + values.length,
-    })
+    measure::<Data>(bytes, 1, limit)
 }

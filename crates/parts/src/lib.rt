@@ -3,6 +3,7 @@
 
 pub mod counted;
 pub mod data;
+pub mod measured;
 pub mod names;
 pub mod order;
 pub mod queries;

@@ -1,30 +1,28 @@
-// How many parts a query has that stands in front of bytes, by functions that call each other.
-// Bytes may nest deeper than any stack, so each level takes a part off the limit, and none is walked past it.
-ghost use Rattle.std.specs.Prelude.{suc};
+// How many parts a query has that stands in front of bytes.
+ghost use Rattle.std.specs.Prelude.{suc, true};
 ghost use Rattle.query.specs.Size.{size_1, size_q};
-ghost use Rattle.format.specs.Coding.{many};
 ghost use Rattle.format.specs.Wire.{queries as all_queries};
 ghost use Rattle.format.specs.Heads.{query_heads};
 ghost use Rattle.format.specs.Nodes.{IsOp1, TellsQuery};
-ghost use Rattle.parts.specs.Counts.{total, CountedInFront};
+ghost use Rattle.parts.specs.Counts.{CountedInFront};
 ghost use Rattle.parts.specs.Heads.{operators, written_out, written_size, own_q, Weighs, Weighed};
 
 use crate::counted::Counted;
 use crate::data::data_parts;
-use crate::names::names_parts;
+use crate::measured::{Front, Measured, measure};
+use crate::names::{names_parts, no_more};
 use crate::types::type_parts;
 use format::node::{QueryNode, Unary};
-use format::queries::query_node;
+use format::queries::{Queries, query_node};
 
 // An operator by a name counts one, and each byte of the name.
 fn named_parts(name_length: usize, limit: usize) -> Option<usize>
     ensures { Weighs limit (suc name_length) result }
 {
-    if name_length < limit {
-        Some(1 + name_length)
-    } else {
-        None
+    if name_length >= limit {
+        return None;
     }
+    Some(1 + name_length)
 }
 
 // What an operator on one thing counts: one, and its names. The bytes are those after the tag.
@@ -32,9 +30,7 @@ fn unary_parts(bytes: &[u8], op: Unary, limit: usize) -> Option<usize>
     ensures { Weighed operators IsOp1 size_1 limit bytes.now op result }
 {
     match op {
-        Unary::Dot(n) => named_parts(n, limit),
-        Unary::AsField(n) => named_parts(n, limit),
-        Unary::Without(n) => named_parts(n, limit),
+        Unary::Dot(n) | Unary::AsField(n) | Unary::Without(n) => named_parts(n, limit),
         Unary::Only(_) => {
             if limit == 0 {
                 return None;
@@ -70,17 +66,11 @@ fn own_parts(bytes: &[u8], node: QueryNode, limit: usize) -> Option<usize>
         }
         QueryNode::One(op) => unary_parts(bytes, op, limit),
         QueryNode::Matched(m, n) => {
-            if m <= limit && n <= limit - m {
-                Some(m + n)
-            } else {
-                None
-            }
+            let first = no_more(m, limit)?;
+            let second = no_more(n, limit - first)?;
+            Some(first + second)
         }
-        QueryNode::OnLeft(_) => {
-            let other = type_parts(bytes, limit)?;
-            Some(other.parts)
-        }
-        QueryNode::OnRight(_) => {
+        QueryNode::OnLeft(_) | QueryNode::OnRight(_) => {
             let other = type_parts(bytes, limit)?;
             Some(other.parts)
         }
@@ -88,39 +78,30 @@ fn own_parts(bytes: &[u8], node: QueryNode, limit: usize) -> Option<usize>
     }
 }
 
-// The parts and the bytes of the query in front, or nothing if it has more parts than the limit.
-#[cycle(query_parts_several_parts)]
-pub fn query_parts(bytes: &[u8], limit: usize) -> Option<Counted>
-    ensures { CountedInFront all_queries size_q limit bytes.now result }
-{
-    if limit == 0 {
-        return None;
-    }
-    match query_node(bytes) {
-        Ok(o) => {
-            let start = o.length;
-            let own = own_parts(&bytes[1..], o.head, limit - 1)?;
-            let inner = several_parts(&bytes[start..], o.parts, limit - 1 - own)?;
-            Some(Counted {
-                parts: 1 + own + inner.parts,
-                length: start + inner.length,
-            })
+impl Measured for Queries {
+    ghost coding = { all_queries };
+
+    ghost size = { size_q };
+
+    ghost holds = { λ _. true };
+
+    fn front(bytes: &[u8], limit: usize) -> Option<Front> {
+        if limit == 0 {
+            return None;
         }
-        Err(_) => None,
+        let o = query_node(bytes).ok()?;
+        let own = own_parts(&bytes[1..], o.head, limit - 1)?;
+        Some(Front {
+            own: 1 + own,
+            after: o.parts,
+            length: o.length,
+        })
     }
 }
 
-// The parts and the bytes of `count` queries, one after the other: what an operator is of.
-#[cycle(query_parts_several_parts)]
-fn several_parts(bytes: &[u8], count: usize, limit: usize) -> Option<Counted>
-    ensures { CountedInFront (many all_queries count) (total size_q) limit bytes.now result }
+// The parts and the bytes of the query in front, or nothing if it has more parts than the limit.
+pub fn query_parts(bytes: &[u8], limit: usize) -> Option<Counted>
+    ensures { CountedInFront all_queries size_q limit bytes.now result }
 {
-    let mut parts: usize = 0;
-    let mut end: usize = 0;
-    for _i in 0..count {
-        let one = query_parts(&bytes[end..], limit - parts)?;
-        parts += one.parts;
-        end += one.length;
-    }
-    Some(Counted { parts, length: end })
+    measure::<Queries>(bytes, 1, limit)
 }

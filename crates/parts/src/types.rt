@@ -1,103 +1,69 @@
-// How many parts a type has that stands in front of bytes, and a schema, by functions that call each other.
-// Bytes may nest deeper than any stack, so each level takes a part off the limit, and none is walked past it.
-ghost use Rattle.std.specs.Prelude.{suc};
+// How many parts a type has that stands in front of bytes, and a schema.
+ghost use Rattle.std.specs.Prelude.{true};
 ghost use Rattle.query.specs.Size.{size_t, size_s};
 ghost use Rattle.format.specs.Coding.{many};
 ghost use Rattle.format.specs.Wire.{types as all_types};
-ghost use Rattle.parts.specs.Counts.{total, CountedInFront, fields, fields_size};
+ghost use Rattle.format.specs.Heads.{ty_heads};
+ghost use Rattle.format.specs.Nodes.{TellsType};
+ghost use Rattle.parts.specs.Counts.{CountedInFront};
+ghost use Rattle.parts.specs.Heads.{own_t, Weighed};
 
 use crate::counted::Counted;
+use crate::measured::{Front, Measured, measure};
 use crate::names::names_parts;
 use format::node::TypeNode;
-use format::types::type_node;
+use format::types::{Types, type_node};
+
+impl Measured for Types {
+    ghost coding = { all_types };
+
+    ghost size = { size_t };
+
+    ghost holds = { λ _. true };
+
+    fn front(bytes: &[u8], limit: usize) -> Option<Front> {
+        if limit == 0 {
+            return None;
+        }
+        let o = type_node(bytes).ok()?;
+        let own = own_parts(&bytes[1..], o.head, limit - 1)?;
+        Some(Front {
+            own: 1 + own,
+            after: o.parts,
+            length: o.length,
+        })
+    }
+}
+
+// What the head of a type counts besides itself: a record's names. The bytes are those after the tag.
+pub(crate) fn own_parts(bytes: &[u8], node: TypeNode, limit: usize) -> Option<usize>
+    ensures { Weighed ty_heads TellsType own_t limit bytes.now node result }
+{
+    match node {
+        TypeNode::Record(_) => {
+            let names = names_parts(bytes, limit)?;
+            Some(names.parts)
+        }
+        _ => Some(0),
+    }
+}
 
 // The parts and the bytes of the type in front, or nothing if it has more parts than the limit.
-#[cycle(record_parts_several_parts_type_parts)]
 pub fn type_parts(bytes: &[u8], limit: usize) -> Option<Counted>
     ensures { CountedInFront all_types size_t limit bytes.now result }
 {
-    if limit == 0 {
-        return None;
-    }
-    match type_node(bytes) {
-        Ok(o) => {
-            let start = o.length;
-            match o.head {
-                TypeNode::Record(_) => {
-                    let inner = record_parts(&bytes[1..], o.parts, limit - 1)?;
-                    Some(Counted {
-                        parts: 1 + inner.parts,
-                        length: 1 + inner.length,
-                    })
-                }
-                // nothing, a bag's type or those of two sides
-                _ => {
-                    let inner = several_parts(&bytes[start..], o.parts, limit - 1)?;
-                    Some(Counted {
-                        parts: 1 + inner.parts,
-                        length: start + inner.length,
-                    })
-                }
-            }
-        }
-        Err(_) => None,
-    }
-}
-
-// The parts and the bytes of `count` types, one after the other.
-#[cycle(record_parts_several_parts_type_parts)]
-fn several_parts(bytes: &[u8], count: usize, limit: usize) -> Option<Counted>
-    ensures { CountedInFront (many all_types count) (total size_t) limit bytes.now result }
-{
-    let mut parts: usize = 0;
-    let mut end: usize = 0;
-    for _i in 0..count {
-        let one = type_parts(&bytes[end..], limit - parts)?;
-        parts += one.parts;
-        end += one.length;
-    }
-    Some(Counted { parts, length: end })
-}
-
-// The parts and the bytes of a record's `count` fields: their names after their count, and then their types.
-// A field counts one, each byte of its name, and the parts of its type.
-#[cycle(record_parts_several_parts_type_parts)]
-fn record_parts(bytes: &[u8], count: usize, limit: usize) -> Option<Counted>
-    ensures { CountedInFront (fields all_types count) (fields_size all_types count size_t) limit bytes.now result }
-{
-    let names = names_parts(bytes, limit)?;
-    let end = names.length;
-    let held = several_parts(&bytes[end..], count, limit - names.parts)?;
-    Some(Counted {
-        parts: names.parts + held.parts,
-        length: end + held.length,
-    })
-}
-
-// In a schema a type counts one more than its parts.
-fn entry_parts(bytes: &[u8], limit: usize) -> Option<Counted>
-    ensures { CountedInFront all_types (λ t. suc (size_t t)) limit bytes.now result }
-{
-    if limit == 0 {
-        return None;
-    }
-    let entry = type_parts(bytes, limit - 1)?;
-    Some(Counted {
-        parts: 1 + entry.parts,
-        length: entry.length,
-    })
+    measure::<Types>(bytes, 1, limit)
 }
 
 // The parts and the bytes of the schema of `count` types in front, or nothing if it has more parts than the limit.
+// In a schema a type counts one more than its parts.
 pub fn schema_parts(bytes: &[u8], count: usize, limit: usize) -> Option<Counted>
     ensures { CountedInFront (many all_types count) size_s limit bytes.now result }
 {
-    let mut parts: usize = 0;
-    let mut end: usize = 0;
-    for _i in 0..count {
-        let one = entry_parts(&bytes[end..], limit - parts)?;
-        parts += one.parts;
-        end += one.length;
-    }
-    Some(Counted { parts, length: end })
+    let left = limit.checked_sub(count)?;
+    let types = measure::<Types>(bytes, count, left)?;
+    Some(Counted {
+        parts: count + types.parts,
+        length: types.length,
+    })
 }

@@ -6,7 +6,7 @@ use Rattle.format.specs.Wire.{write_names, FitNames}
 use Rattle.format.specs.Bytes.{length_le}
 use Rattle.printing.specs.declared.datum.Whole.TheVariants.{Bag, Record}
 use Rattle.printing.specs.declared.datum.Open.{Open}
-use Rattle.printing.specs.declared.words.Span.{Span}
+use Rattle.std.specs.declared.ops.Range.{Range}
 use Rattle.printing.specs.Texts.{quoted, bytes_quoted, low_bytes}
 use Rattle.printing.proofs.Escapes.{quoted_low}
 use Rattle.printing.specs.Words.{value_at, NumberAt, NameAt, PastNames}
@@ -41,16 +41,16 @@ module _ (words : List ℕ) (at : ℕ) {out out' : List ℕ} where
   pub number_missing : length words < at + 8 → NumberShown words at out out' None
   number_missing h = record { is = λ m rest _ e. too_few words at 8 (omega arith) h m rest e }
 
-  pub text_shown : (s : Span) → NameAt words at s → out' ≡ out ++ quoted (take (s.to - s.from) (drop s.from words)) → TextShown words at out out' (Some s.to)
+  pub text_shown : (s : Range ℕ) → NameAt words at s → out' ≡ out ++ quoted (take (s.end - s.start) (drop s.start words)) → TextShown words at out out' (Some s.end)
   text_shown s r o = record {
     is = λ t rest f e.
         let n = name_there words at t rest f e in
-        let from_is : s.from ≡ at + 4 = r.from_is in
-        let to_is : s.to ≡ at + 4 + length t = r.to_is ∙ ap (λ (k : ℕ). at + 4 + k) n.long in
-        let long : s.to - s.from ≡ length t = omega arith in
-        let part : take (s.to - s.from) (drop s.from words) ≡ t = ap₂ (λ (k : ℕ) (i : ℕ). take k (drop i words)) long from_is ∙ n.is in (
+        let from_is : s.start ≡ at + 4 = r.from_is in
+        let to_is : s.end ≡ at + 4 + length t = r.to_is ∙ ap (λ (k : ℕ). at + 4 + k) n.long in
+        let long : s.end - s.start ≡ length t = omega arith in
+        let part : take (s.end - s.start) (drop s.start words) ≡ t = ap₂ (λ (k : ℕ) (i : ℕ). take k (drop i words)) long from_is ∙ n.is in (
           ap (λ (k : ℕ). drop k words) to_is ∙ n.after,
-          o ∙ ap (λ (v : List ℕ). out ++ v) (quoted_low (take (s.to - s.from) (drop s.from words)) ∙ ap bytes_quoted (ap low_bytes part ∙ low_same t f.1)),
+          o ∙ ap (λ (v : List ℕ). out ++ v) (quoted_low (take (s.end - s.start) (drop s.start words)) ∙ ap bytes_quoted (ap low_bytes part ∙ low_same t f.1)),
         );
   }
 

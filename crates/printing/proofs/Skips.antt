@@ -3,7 +3,7 @@ use Rattle.std.proofs.Common.{◌≡◌, ℕ, suc, ◌+◌, ◌-◌, ◌<◌, �
 use Rattle.query.specs.Data.{Name}
 use Rattle.format.specs.Coding.{le, name, writes, AllFit}
 use Rattle.format.specs.Bytes.{length_le}
-use Rattle.printing.specs.declared.words.Span.{Span}
+use Rattle.std.specs.declared.ops.Range.{Range}
 use Rattle.printing.specs.Words.{value_at, NameAt, PastNames}
 use Rattle.printing.proofs.Values.{number_there, within_there, after_there, front_there}
 
@@ -59,7 +59,7 @@ first_of words left end rest (t ∷ ns) m f e =
 first : (words : List ℕ) (count i end : ℕ) (rest : List ℕ) → i < count → ToSkip words (count - i) end rest → FirstName words (count - (i + 1)) end rest
 first words count i end rest h s = first_of words (count - (i + 1)) end rest s.ns (omega (arith, s.many)) s.fit s.are
 
-pub step : (words : List ℕ) (at count i end : ℕ) (span : Span) → i < count → Skipped words at count i end → NameAt words end span → Skipped words at count (i + 1) span.to
+pub step : (words : List ℕ) (at count i end : ℕ) (span : Range ℕ) → i < count → Skipped words at count i end → NameAt words end span → Skipped words at count (i + 1) span.end
 step words at count i end span h s n = record {
   goes_on = λ ns rest m f e.
       let g = first words count i end rest h (s.goes_on ns rest m f e) in

@@ -2,7 +2,7 @@
 use Rattle.std.specs.Prelude.{◌≡◌, ℕ, ◌+◌, ◌*◌, ◌≤◌, List, [], ◌∷◌, ◌++◌, length, take, drop, IsSomeAnd, Option, bit_and}
 use Rattle.query.specs.Data.{Name}
 use Rattle.format.specs.Coding.{name, writes, AllFit}
-use Rattle.printing.specs.declared.words.Span.{Span}
+use Rattle.std.specs.declared.ops.Range.{Range}
 
 -- the number that words stand for
 unfoldable pub value : List ℕ → ℕ
@@ -18,10 +18,10 @@ pub record NumberAt (words : List ℕ) (at k n : ℕ) : Type 0 where
   pub is : n ≡ value_at words at k
 
 -- the name that stands at a place: behind its length, as many words as that says
-pub record NameAt (words : List ℕ) (at : ℕ) (s : Span) : Type 0 where
-  pub from_is : s.from ≡ at + 4
-  pub to_is : s.to ≡ at + 4 + value_at words at 4
-  pub within : s.to ≤ length words
+pub record NameAt (words : List ℕ) (at : ℕ) (s : Range ℕ) : Type 0 where
+  pub from_is : s.start ≡ at + 4
+  pub to_is : s.end ≡ at + 4 + value_at words at 4
+  pub within : s.end ≤ length words
 
 -- where so many names stand at a place, what comes after them begins where the answer says
 pub record PastNames (words : List ℕ) (at count : ℕ) (r : Option ℕ) : Type 0 where

@@ -80,6 +80,8 @@ fn begin_side(
     Ok(Some(next))
 }
 
+// Here and below, None is no fault: of words that are no datum what can be made of them is printed.
+
 // Appends the number at `at`, and answers where it ends; None where there is none.
 fn show_number_at(words: &[u64], at: usize, out: &mut Vec<u8>) -> Result<Option<usize>, AllocError>
     ensures is { IfOk result (λ o. NumberShown words.now at out.old.items out.new.items o) }
@@ -102,10 +104,9 @@ fn show_text_at(words: &[u64], at: usize, out: &mut Vec<u8>) -> Result<Option<us
     let Some(span) = name(words, at) else {
         return Ok(None);
     };
-    let from = span.from;
-    let to = span.to;
-    show_text(&words[from..to], out)?;
-    Ok(Some(to))
+    let end = span.end;
+    show_text(&words[span], out)?;
+    Ok(Some(end))
 }
 
 // Opens the bag whose count stands at `at`, and answers where its parts begin; None where no count stands there.
@@ -162,6 +163,7 @@ fn show_head(
     ensures grows { vec_len out.old ≤ vec_len out.new }
 {
     let rest = at + 1;
+    // The tags are those of the format, whose own reader takes bytes and not words.
     match words[at] {
         0 => show_plain(b"null", rest, out),
         1 => show_number_at(words, rest, out),

@@ -4,20 +4,22 @@ ghost use Rattle.printing.specs.Lines.{words_for, refused_line, work_text, Lines
 
 use crate::datum::show;
 use crate::number::show_number;
+use refusals::Refusal;
 use std::alloc::{AllocError, Global};
 
-// What is wrong, by a refusal's number.
+// What is wrong, by a refusal's number. A line may bear any number, and each has its words.
+#[tactic(auto, using(std::proofs::lemmas::Bool::Decides::nat_tests), unfolding(crate::specs::Lines::words_for))]
 fn what_is_wrong(number: u8) -> &'static str
     ensures { result.now ≡ words_for number }
 {
-    match number {
-        1 => "the bytes are no request",
-        2 => "more than 8192 parts",
-        3 => "a record's names in the schema are not in order, each once",
-        4 => "the query has no type",
-        5 => "the tables are not of the schema",
-        6 => "this desk cannot do such a request",
-        _ => "the request is refused",
+    match Refusal::try_from(number) {
+        Ok(Refusal::NoRequest) => "the bytes are no request",
+        Ok(Refusal::TooManyParts) => "more than 8192 parts",
+        Ok(Refusal::NotInOrder) => "a record's names in the schema are not in order, each once",
+        Ok(Refusal::NoType) => "the query has no type",
+        Ok(Refusal::NotOfSchema) => "the tables are not of the schema",
+        Ok(Refusal::CannotDo) => "this desk cannot do such a request",
+        Err(_number) => "the request is refused",
     }
 }
 

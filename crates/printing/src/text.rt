@@ -17,19 +17,16 @@ fn show_byte(byte: u8, out: &mut Vec<u8>) -> Result<(), AllocError>
     ensures is { OnOk result (out.new.items ≡ out.old.items ++ escaped byte) }
     ensures grows { vec_len out.old ≤ vec_len out.new }
 {
-    if byte < 32 {
-        let high = hexadecimal(byte / 16);
-        let low = hexadecimal(byte % 16);
-        return out.extend_from_slice(&[b'\\', b'u', b'0', b'0', high, low]);
+    match byte {
+        0..=31 => {
+            let high = hexadecimal(byte / 16);
+            let low = hexadecimal(byte % 16);
+            out.extend_from_slice(&[b'\\', b'u', b'0', b'0', high, low])
+        }
+        b'"' => out.extend_from_slice(b"\\\""),
+        b'\\' => out.extend_from_slice(b"\\\\"),
+        _ => out.extend_from_slice(&[byte]),
     }
-    if byte == b'"' {
-        return out.extend_from_slice(b"\\\"");
-    }
-    if byte == b'\\' {
-        return out.extend_from_slice(b"\\\\");
-    }
-    out.push(byte)?;
-    Ok(())
 }
 
 // Appends the text whose bytes the words are, a byte to a word.

@@ -2,7 +2,9 @@
 ghost use Rattle.std.specs.Prelude.{◌+◌, ◌^◌, ◌<◌, ◌≤◌, length, IfSome, MatchOption};
 ghost use Rattle.printing.specs.Words.{value_at, NumberAt, NameAt, PastNames};
 
-// The number of four bytes that stands at `at`, if there are four.
+use std::ops::Range;
+
+// The number of four bytes that stands at `at`, if there are four. Each stands in a word of its own, which from_le_bytes does not read.
 pub fn four(words: &[u64], at: usize) -> Option<usize>
     ensures { MatchOption result (length words.now < at + 4) (λ n. (n < 2 ^ 32) × NumberAt words.now at 4 n) }
 {
@@ -18,37 +20,21 @@ pub fn four(words: &[u64], at: usize) -> Option<usize>
 pub fn eight(words: &[u64], at: usize) -> Option<u64>
     ensures { MatchOption result (length words.now < at + 8) (λ n. NumberAt words.now at 8 n) }
 {
-    let Some(low) = four(words, at) else {
-        return None;
-    };
-    let Some(high) = four(words, at + 4) else {
-        return None;
-    };
+    let low = four(words, at)?;
+    let high = four(words, at + 4)?;
     Some(low as u64 + 4294967296 * high as u64)
 }
 
-// Where the bytes of a name stand.
-#[derive(Clone, Copy)]
-pub struct Span {
-    pub from: usize,
-    pub to: usize,
-}
-
 // Where the bytes of the name at `at` stand, after its length, if they are there.
-pub fn name(words: &[u64], at: usize) -> Option<Span>
+pub fn name(words: &[u64], at: usize) -> Option<Range<usize>>
     ensures { MatchOption result (length words.now < at + 4 + value_at words.now at 4) (λ s. NameAt words.now at s) }
 {
-    let Some(count) = four(words, at) else {
-        return None;
-    };
+    let count = four(words, at)?;
     let from = at + 4;
     if words.len() - from < count {
         return None;
     }
-    Some(Span {
-        from,
-        to: from + count,
-    })
+    Some(from..from + count)
 }
 
 // Where as many names as that end, if they are there.
@@ -59,10 +45,8 @@ pub fn after_names(words: &[u64], at: usize, count: usize) -> Option<usize>
 {
     let mut end = at;
     for i in 0..count {
-        let Some(span) = name(words, end) else {
-            return None;
-        };
-        end = span.to;
+        let span = name(words, end)?;
+        end = span.end;
     }
     Some(end)
 }

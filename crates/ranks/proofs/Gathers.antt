@@ -9,12 +9,7 @@ use Rattle.format.specs.Codings.{name_way}
 use Rattle.ranks.specs.Ranks.{In, Among, names_of, Listed, Put}
 use Rattle.ranks.specs.Known.{AllIn, Kept, Took, NamesTaken}
 use Rattle.ranks.specs.declared.names.Names.{Names}
-use Rattle.ranks.proofs.Placed.{read_same, read_next, read_within, not_stuck, name_bytes}
-
-pub all_in_more : (ns vs : List Name) → Among ns vs → (ms : List Name) → AllIn ns ms → AllIn vs ms
-unfolding AllIn
-all_in_more ns vs a [] h = tt
-all_in_more ns vs a (m ∷ ms) h = (a m h.0, all_in_more ns vs a ms h.1)
+use Rattle.ranks.specs.Placed.{read_same, read_next, read_within, not_stuck, name_bytes}
 
 pub kept_none : (xs : List ℕ) (v : Names) → Listed xs v → Kept xs v v
 kept_none xs v l = record { listed = l; among = λ n m. m }

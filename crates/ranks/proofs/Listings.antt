@@ -1,12 +1,20 @@
 -- Names by their places: looking one up, and putting one in.
-use Rattle.std.proofs.Common.{◌≡◌, ℕ, zero, suc, ◌+◌, ◌-◌, ◌<◌, ◌≤◌, true, ◌⊎◌, List, [], ◌∷◌, length, get_or, take, drop, vec_items, vec_capacity, sym, refl, ap, ◌∙◌, subst, ap₂, inl, inr, true≢false, arith}
+use Rattle.std.proofs.Common.{◌≡◌, ℕ, zero, suc, ◌+◌, ◌-◌, ◌<◌, ◌≤◌, true, ◌⊎◌, List, [], ◌∷◌, length, get_or, take, drop, vec_items, vec_capacity, sym, refl, ap, ◌∙◌, subst, ap₂, inl, inr, true≢false, MatchResult, Option, Result, Ok, Err, arith}
 use Rattle.query.specs.Data.{Name, less_text}
-use Rattle.query.proofs.Texts.{less_self, less_trans}
+use Rattle.query.proofs.Texts.{less_self}
 use Rattle.std.specs.List.{insert}
+use Rattle.std.specs.Result.{result_ok}
+use Rattle.std.specs.List.Sorted.{IsSearchInRange, IsBinarySearchResult, IsNonDecreasingBy}
+use Rattle.std.specs.declared.cmp.Ordering.{Ordering}
+use Rattle.std.specs.declared.cmp.Ordering.TheVariants.{Less, Equal, Greater}
+use Rattle.std.specs.Ordering.{ordering_index, nat_cmp}
+use Rattle.std.specs.Cmp.Lexicographic.{slice_cmp}
+use Rattle.std.proofs.lemmas.List.{get_or_default}
 use Rattle.std.proofs.lemmas.List.Edits.{length-insert, get_or-insert_below, get_or-insert_at, get_or-insert_above}
-use Rattle.ranks.specs.Ranks.{name_at, names_at, nowhere, Ordered, In, names_of, Listed, PutAt, Put}
+use Rattle.ranks.specs.Ranks.{Ways, name_at, names_at, nowhere, Ordered, In, names_of, Listed, PutAt, Put, RankOf}
 use Rattle.ranks.specs.declared.names.Place.{Place}
 use Rattle.ranks.specs.declared.names.Names.{Names}
+use Rattle.ranks.proofs.Compares.{ways, rises}
 
 pub names_length : (xs : List ℕ) (ps : List Place) → length (names_at xs ps) ≡ length ps
 unfolding names_at
@@ -23,40 +31,33 @@ names_get xs (p ∷ ps) (suc k) = names_get xs ps k
 before_not : (a b : Name) → less_text a b ≡ true → a ≡ b → ⊥
 before_not a b h e = true≢false (sym h ∙ (ap (λ (z : Name). less_text z b) e ∙ less_self b))
 
--- halving: what is before comes before, and what is after comes after
-pub record Halved (ns : List Name) (n : Name) (low high : ℕ) : Type 0 where
-  pub low_high : low ≤ high
-  pub within : high ≤ length ns
-  pub before : (k : ℕ) → k < low → less_text (get_or ns k []) n ≡ true
-  pub after : (k : ℕ) → high ≤ k → k < length ns → less_text n (get_or ns k []) ≡ true
+found : (xs : List ℕ) (ps : List Place) (n : Name) (k : ℕ) (o : Ordering) → slice_cmp nat_cmp (name_at xs (get_or ps k nowhere)) n ≡ o → Ways (get_or (names_at xs ps) k []) n o
+found xs ps n k o e = subst (λ (z : Name). Ways z n o) (sym (names_get xs ps k)) (subst (λ (z : Ordering). Ways (name_at xs (get_or ps k nowhere)) n z) e (ways (name_at xs (get_or ps k nowhere)) n))
 
-pub half_all : (ns : List Name) (n : Name) (h : ℕ) → h ≡ length ns → Halved ns n 0 h
-half_all ns n h e = record { low_high = omega arith; within = omega arith; before = λ k l. absurd (omega arith); after = λ k l m. absurd (omega arith) }
-
-pub half_low : (ns : List Name) (n : Name) (low high mid : ℕ) → Ordered ns → low ≤ mid → mid < high → Halved ns n low high → less_text (get_or ns mid []) n ≡ true → Halved ns n (mid + 1) high
-half_low ns n low high mid o a b h e = record {
-  low_high = omega arith;
-  within = h.within;
-  before = λ k l. elim (less_or k mid (omega arith)) [ inl m ↦ less_trans _ _ _ (o k mid m (omega (arith, h.within))) e | inr m ↦ subst (λ z. less_text (get_or ns z []) n ≡ true) (sym m) e ];
-  after = h.after;
-}
+in_turn : (xs : List ℕ) (ps : List Place) (n : Name) → Ordered (names_at xs ps) → IsNonDecreasingBy (λ p. ordering_index (slice_cmp nat_cmp (name_at xs p) n)) ps
+in_turn xs ps n o i j d l m = elim (less_or i j l) [
+  | inl h ↦ rises (name_at xs (get_or ps i d)) (name_at xs (get_or ps j d)) n _ _ (ap₂ (λ (u v : Name). less_text u v) (at i (omega arith)) (at j m) ∙ o i j h (omega (arith, names_length xs ps))) (ways _ n) (ways _ n)
+  | inr e ↦ let q = ap (λ k. ordering_index (slice_cmp nat_cmp (name_at xs (get_or ps k d)) n)) e in omega arith
+]
   where
     less_or : (k m : ℕ) → k ≤ m → (k < m) ⊎ (k ≡ m)
     less_or k m l = grind arith
 
-pub half_high : (ns : List Name) (n : Name) (low high mid : ℕ) → Ordered ns → low ≤ mid → mid < high → Halved ns n low high → less_text n (get_or ns mid []) ≡ true → Halved ns n low mid
-half_high ns n low high mid o a b h e = record {
-  low_high = a;
-  within = omega (arith, h.within);
-  before = h.before;
-  after = λ k l m. elim (less_or mid k l) [ inl q ↦ less_trans _ _ _ e (o mid k q m) | inr q ↦ subst (λ z. less_text n (get_or ns z []) ≡ true) q e ];
-}
-  where
-    less_or : (k m : ℕ) → k ≤ m → (k < m) ⊎ (k ≡ m)
-    less_or k m l = grind arith
+    at : (k : ℕ) → k < length ps → name_at xs (get_or ps k d) ≡ get_or (names_at xs ps) k []
+    at k h = ap (λ (z : Place). name_at xs z) (get_or_default ps k d nowhere h) ∙ sym (names_get xs ps k)
 
-pub half_done : (ns : List Name) (n : Name) (low high : ℕ) → high ≤ low → Halved ns n low high → PutAt ns n low
-half_done ns n low high l h = record { within = omega (arith, h.within, h.low_high); before = h.before; after = λ k a b. h.after k (omega arith) b }
+-- what a search among the places finds
+pub searched : (xs : List ℕ) (ps : List Place) (n : Name) (r : Result ℕ ℕ) → Ordered (names_at xs ps) → IsSearchInRange r (length ps) → IsBinarySearchResult (λ p. slice_cmp nat_cmp (name_at xs p) n) ps r
+    → MatchResult r (λ i. (i < length ps) × (name_at xs (get_or ps i nowhere) ≡ n)) (λ i. PutAt (names_at xs ps) n i)
+searched xs ps n (Ok i) o b h = (b, sym (names_get xs ps i) ∙ found xs ps n i Equal (h nowhere))
+searched xs ps n (Err i) o b h =
+    let parted = h (in_turn xs ps n o) in
+    let len = names_length xs ps in
+    record {
+      within = omega (arith, b);
+      before = λ k l. found xs ps n k Less (parted.0 k nowhere (omega arith) l);
+      after = λ k l m. found xs ps n k Greater (parted.1 k nowhere l (omega arith));
+    }
 
 -- where it is to be put it is not yet
 pub absent : (ns : List Name) (n : Name) (i : ℕ) → PutAt ns n i → In ns n → ⊥
@@ -171,8 +172,15 @@ put_in xs v u p i l h q m e k =
     }
 
 -- ranks are names' numbers
-pub rank_some : (xs : List ℕ) (ps : List Place) (n : Name) (i : ℕ) → i < length ps → name_at xs (get_or ps i nowhere) ≡ n → (i < length (names_at xs ps)) × (get_or (names_at xs ps) i [] ≡ n)
+rank_some : (xs : List ℕ) (ps : List Place) (n : Name) (i : ℕ) → i < length ps → name_at xs (get_or ps i nowhere) ≡ n → (i < length (names_at xs ps)) × (get_or (names_at xs ps) i [] ≡ n)
 rank_some xs ps n i h e = (omega (arith, names_length xs ps), names_get xs ps i ∙ e)
+
+pub rank_of : (xs : List ℕ) (ps qs : List Place) (n : Name) (r : Result ℕ ℕ) (o : Option ℕ) → qs ≡ ps → o ≡ result_ok r → MatchResult r (λ i. (i < length qs) × (name_at xs (get_or qs i nowhere) ≡ n)) (λ i. PutAt (names_at xs qs) n i) → RankOf (names_at xs ps) n o
+rank_of xs ps qs n r o e f m = subst (λ (z : List Place). RankOf (names_at xs z) n o) e (subst (λ (z : Option ℕ). RankOf (names_at xs qs) n z) (sym f) (go r m))
+  where
+    go : (r : Result ℕ ℕ) → MatchResult r (λ i. (i < length qs) × (name_at xs (get_or qs i nowhere) ≡ n)) (λ i. PutAt (names_at xs qs) n i) → RankOf (names_at xs qs) n (result_ok r)
+    go (Ok i) m = rank_some xs qs n i m.0 m.1
+    go (Err i) m = absent (names_at xs qs) n i m
 
 pub part_same : (xs : List ℕ) (s l : ℕ) → take ((s + l) - s) (drop s xs) ≡ take l (drop s xs)
 part_same xs s l = ap (λ k. take k (drop s xs)) (sums s l)

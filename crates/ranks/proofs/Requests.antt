@@ -5,7 +5,7 @@ use Rattle.ranks.specs.Known.{Kept, TypesTaken, QueryTaken, Gathered}
 use Rattle.ranks.specs.declared.names.Place.{Place}
 use Rattle.ranks.specs.declared.names.Names.{Names}
 use Rattle.ranks.proofs.Listings.{names_length}
-use Rattle.ranks.proofs.QueryNames.{all_more}
+use Rattle.ranks.specs.QueryLaws.{all_more}
 
 only : (i : ℕ) → i < 1 → i ≡ 0
 only i h = omega arith

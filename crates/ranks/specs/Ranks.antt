@@ -1,20 +1,16 @@
 -- Names in order, each once.
 use Rattle.std.specs.Prelude.{◌≡◌, ℕ, ◌+◌, ◌<◌, ◌≤◌, true, List, [], ◌∷◌, length, get_or, take, drop, Some, None, vec_items, vec_capacity, Option, slice_index_or}
 use Rattle.query.specs.Data.{Name, less_text}
-use Rattle.ranks.specs.declared.compare.Way.{Way}
-use Rattle.ranks.specs.declared.compare.Way.TheVariants.{Less, Same, More}
+use Rattle.std.specs.declared.cmp.Ordering.{Ordering}
+use Rattle.std.specs.declared.cmp.Ordering.TheVariants.{Less, Equal, Greater}
 use Rattle.ranks.specs.declared.names.Place.{Place}
 use Rattle.ranks.specs.declared.names.Names.{Names}
 
-abbrev pub Ways : List ℕ → List ℕ → Way → Type 0
+-- which of two texts comes first
+abbrev pub Ways : List ℕ → List ℕ → Ordering → Type 0
 Ways x y Less = less_text x y ≡ true
-Ways x y Same = x ≡ y
-Ways x y More = less_text y x ≡ true
-
-abbrev pub Longer : ℕ → ℕ → Way → Type 0
-Longer m n Less = m < n
-Longer m n Same = m ≡ n
-Longer m n More = n < m
+Ways x y Equal = x ≡ y
+Ways x y Greater = less_text y x ≡ true
 
 -- the name at a place
 abbrev pub name_at : List ℕ → Place → Name

@@ -1,13 +1,19 @@
 // The names that stand in types and in a query, put among the others.
 ghost use Rattle.std.specs.Prelude.{◌≡◌, ℕ, ◌+◌, ◌<◌, ◌≤◌, List, [], length, vec_len, vec_capacity};
+ghost use Rattle.query.specs.Data.{Name};
 ghost use Rattle.ranks.specs.Ranks.{In, names_of, Listed};
 ghost use Rattle.ranks.specs.Known.{Kept, NamesTaken, TypesTaken, HeadTaken, QueryHeadTaken, QueryTaken, Named, OpTaken, Gathered};
+ghost use Rattle.ranks.specs.Naming.{QueriesTaken, NamedLaws};
+ghost use Rattle.ranks.specs.declared.names.Names.{Names};
+ghost use Rattle.ranks.specs.TypeLaws.{types_named};
+ghost use Rattle.ranks.specs.QueryLaws.{queries_named};
 
 use crate::names::{Names, Place, put};
 use format::name::read_name;
 use format::node::{QueryNode, TypeNode, Unary};
-use format::queries::query_node;
-use format::types::type_node;
+use format::queries::Queries;
+use format::sort::Sort;
+use format::types::Types;
 
 // So many names that stand one after the other.
 fn put_names(bytes: &[u8], names: &mut Names, at: usize, count: usize)
@@ -26,46 +32,77 @@ fn put_names(bytes: &[u8], names: &mut Names, at: usize, count: usize)
     }
 }
 
-// The names in the head of a type, which is a record's if there are any.
-fn head_names(bytes: &[u8], names: &mut Names, at: usize, node: TypeNode)
+// So many names after a tag and their count.
+fn counted_names(bytes: &[u8], names: &mut Names, at: usize, count: usize)
     requires listed { Listed bytes.now names.old }
     requires within { at ≤ length bytes.now }
     ensures kept { Kept bytes.now names.old names.new }
-    ensures taken { HeadTaken bytes.now names.old names.new at node }
+    ensures taken { at + 5 ≤ length bytes.now → NamesTaken bytes.now names.old names.new (at + 5) count }
 {
-    match node {
-        TypeNode::Record(k) => {
-            if bytes.len() - at < 5 {
-                return;
-            }
-            put_names(bytes, names, at + 5, k);
-        }
-        TypeNode::Nothing => {}
-        TypeNode::Number => {}
-        TypeNode::Truth => {}
-        TypeNode::Text => {}
-        TypeNode::Bag => {}
-        TypeNode::Either => {}
+    if bytes.len() - at >= 5 {
+        put_names(bytes, names, at + 5, count);
     }
 }
 
-// The names in so many types that stand one after the other, by one loop with a count of what is still to come.
+// A sort of thing with names in its heads.
+trait HasNames: Sort {
+    // that the names in a head that stands at a place were put
+    ghost taken: { List ℕ → Names → Names → ℕ → Self.Head → Type 0 };
+
+    // that the names in so many things that stand from a place on were put
+    ghost run: { List ℕ → Names → Names → ℕ → ℕ → Type 0 };
+
+    fn head_names(bytes: &[u8], names: &mut Names, at: usize, head: Self::Head)
+        requires listed { Listed bytes.now names.old }
+        requires within { at < length bytes.now }
+        ensures kept { Kept bytes.now names.old names.new }
+        ensures taken { taken bytes.now names.old names.new at head };
+
+    ghost laws: { NamedLaws Self.Sort.coding Self.Sort.told taken run };
+}
+
+// The names in so many things that stand one after the other, by one loop with a count of what is still to come.
+fn run_names<S: HasNames>(bytes: &[u8], names: &mut Names, at: usize, count: usize)
+    requires listed { Listed bytes.now names.old }
+    requires within { at ≤ length bytes.now }
+    ensures kept { Kept bytes.now names.old names.new }
+    ensures taken { S.run bytes.now names.old names.new at count }
+{
+    let mut end = at;
+    let mut pending: u128 = count as u128;
+    while pending > 0 {
+        let Ok(o) = S::head(&bytes[end..]) else {
+            return;
+        };
+        S::head_names(bytes, names, end, o.head);
+        pending = pending - 1 + o.parts as u128;
+        end += o.length;
+    }
+}
+
+impl HasNames for Types {
+    ghost taken = { HeadTaken };
+
+    ghost run = { TypesTaken };
+
+    ghost laws = { types_named };
+
+    // The names in the head of a type, which is a record's if there are any.
+    fn head_names(bytes: &[u8], names: &mut Names, at: usize, head: TypeNode) {
+        if let TypeNode::Record(k) = head {
+            counted_names(bytes, names, at, k);
+        }
+    }
+}
+
+// The names in so many types that stand one after the other.
 pub fn type_names(bytes: &[u8], names: &mut Names, at: usize, count: usize)
     requires listed { Listed bytes.now names.old }
     requires within { at ≤ length bytes.now }
     ensures kept { Kept bytes.now names.old names.new }
     ensures taken { TypesTaken bytes.now names.old names.new at count }
 {
-    let mut end = at;
-    let mut pending: u128 = count as u128;
-    while pending > 0 {
-        let Ok(o) = type_node(&bytes[end..]) else {
-            return;
-        };
-        head_names(bytes, names, end, o.head);
-        pending = pending - 1 + o.parts as u128;
-        end += o.length;
-    }
+    run_names::<Types>(bytes, names, at, count);
 }
 
 // One name, with its length in front of it; and where it ends.
@@ -75,26 +112,11 @@ fn named(bytes: &[u8], names: &mut Names, at: usize, n: usize) -> usize
     ensures { Named bytes.now names.old names.new at n result }
 {
     let rest = bytes.len() - at;
-    if rest < 4 {
-        return at;
-    }
-    if rest - 4 < n {
+    if rest < 4 || rest - 4 < n {
         return at;
     }
     put(bytes, names, at + 4, n);
     at + (4 + n)
-}
-
-// The type that follows a tag.
-fn type_after(bytes: &[u8], names: &mut Names, at: usize)
-    requires listed { Listed bytes.now names.old }
-    requires within { at ≤ length bytes.now }
-    ensures kept { Kept bytes.now names.old names.new }
-    ensures taken { at < length bytes.now → TypesTaken bytes.now names.old names.new (at + 1) 1 }
-{
-    if at < bytes.len() {
-        type_names(bytes, names, at + 1, 1);
-    }
 }
 
 // The names of an operator of one.
@@ -105,57 +127,34 @@ fn op_names(bytes: &[u8], names: &mut Names, at: usize, o: Unary)
     ensures taken { OpTaken bytes.now names.old names.new at o }
 {
     match o {
-        Unary::Dot(n) => {
+        Unary::Dot(n) | Unary::AsField(n) | Unary::Without(n) => {
             named(bytes, names, at + 1, n);
         }
-        Unary::AsField(n) => {
-            named(bytes, names, at + 1, n);
-        }
-        Unary::Without(n) => {
-            named(bytes, names, at + 1, n);
-        }
-        Unary::Only(k) => {
-            if bytes.len() - at < 5 {
-                return;
-            }
-            put_names(bytes, names, at + 5, k);
-        }
-        Unary::Not => {}
-        Unary::InBag => {}
-        Unary::Flat => {}
-        Unary::Count => {}
-        Unary::Sum => {}
-        Unary::Distinct => {}
+        Unary::Only(k) => counted_names(bytes, names, at, k),
+        _ => {}
     }
 }
 
-// The names in the head of a query.
-fn query_head_names(bytes: &[u8], names: &mut Names, at: usize, node: QueryNode)
-    requires listed { Listed bytes.now names.old }
-    requires within { at < length bytes.now }
-    ensures kept { Kept bytes.now names.old names.new }
-    ensures taken { QueryHeadTaken bytes.now names.old names.new at node }
-{
-    match node {
-        QueryNode::Just(_) => type_after(bytes, names, at),
-        QueryNode::OnLeft(_) => type_after(bytes, names, at),
-        QueryNode::OnRight(_) => type_after(bytes, names, at),
-        QueryNode::One(o) => op_names(bytes, names, at, o),
-        QueryNode::Matched(m, n) => {
-            let end = named(bytes, names, at + 1, m);
-            named(bytes, names, end, n);
+impl HasNames for Queries {
+    ghost taken = { QueryHeadTaken };
+
+    ghost run = { QueriesTaken };
+
+    ghost laws = { queries_named };
+
+    // The names in the head of a query: of the type that follows its tag, of its operator, or its own two.
+    fn head_names(bytes: &[u8], names: &mut Names, at: usize, head: QueryNode) {
+        match head {
+            QueryNode::Just(_) | QueryNode::OnLeft(_) | QueryNode::OnRight(_) => {
+                type_names(bytes, names, at + 1, 1)
+            }
+            QueryNode::One(o) => op_names(bytes, names, at, o),
+            QueryNode::Matched(m, n) => {
+                let end = named(bytes, names, at + 1, m);
+                named(bytes, names, end, n);
+            }
+            _ => {}
         }
-        QueryNode::Table(_) => {}
-        QueryNode::It => {}
-        QueryNode::Env => {}
-        QueryNode::Two(_) => {}
-        QueryNode::Each => {}
-        QueryNode::Keep => {}
-        QueryNode::Product => {}
-        QueryNode::Default => {}
-        QueryNode::Either => {}
-        QueryNode::Then => {}
-        QueryNode::WithEnv => {}
     }
 }
 
@@ -166,16 +165,7 @@ pub fn query_names(bytes: &[u8], names: &mut Names, at: usize)
     ensures kept { Kept bytes.now names.old names.new }
     ensures taken { QueryTaken bytes.now names.old names.new at }
 {
-    let mut end = at;
-    let mut pending: u128 = 1;
-    while pending > 0 {
-        let Ok(o) = query_node(&bytes[end..]) else {
-            return;
-        };
-        query_head_names(bytes, names, end, o.head);
-        pending = pending - 1 + o.parts as u128;
-        end += o.length;
-    }
+    run_names::<Queries>(bytes, names, at, 1);
 }
 
 // Begins anew, with the name of no bytes alone: it then counts for none where it stands.
@@ -185,7 +175,7 @@ fn begin(bytes: &[u8], names: &mut Names)
     ensures there { In (names_of bytes.now names.new) [] }
     ensures alone { length (names_of bytes.now names.new) ≡ 1 }
 {
-    names.places.truncate(0);
+    names.places.clear();
     names.places.push_reserved(Place {
         start: 0,
         length: 0,

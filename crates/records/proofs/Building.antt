@@ -1,15 +1,17 @@
 -- Records built field by field.
-use Rattle.std.proofs.Common.{◌≡◌, ℕ, ◌+◌, ◌*◌, ◌≤◌, true, false, List, length, get_or, Some, None, sym, refl, ap, ◌∙◌, subst, arith}
+use Rattle.std.proofs.Common.{◌≡◌, ℕ, ◌+◌, ◌*◌, ◌≤◌, List, length, get_or, Some, None, sym, refl, ap, ◌∙◌, subst, arith, length-append}
 use Rattle.query.specs.Data.{rec, Fields, no_field, field}
 use Rattle.values.specs.Memory.{Used, Under, Spelled, Holds, HoldsFields, loaded, loaded_field, Kept, StoredField, Agree}
 use Rattle.values.specs.Making.{MadeAs}
 use Rattle.values.proofs.Frame.{kept_refl, kept_agree, holds_kept, fields_kept}
+use Rattle.values.specs.Lent.{all, Pushed, Crowded}
+use Rattle.values.specs.declared.lent.Memory.{Memory}
 use Rattle.values.specs.declared.value.Place.{Place}
 use Rattle.values.specs.declared.value.Field.{Field}
 use Rattle.values.specs.declared.value.Value.{Value}
 use Rattle.values.specs.declared.value.Value.TheVariants.{Record}
 use Rattle.records.specs.Parts.{how_many_fields, then_fields}
-use Rattle.records.specs.Records.{Pushes, MakesField, Next}
+use Rattle.records.specs.Records.{MakesField, Next}
 use Rattle.records.proofs.Fields.{as_many, then_many, then_none, then_moves, fields_push, record_made}
 
 pub stored_field_kept : {at top : ℕ} {f : Field} {m n : List ℕ} → StoredField at f m n → top ≤ at → Kept top m n
@@ -62,19 +64,21 @@ built_made bs n top count u all b room =
     let lie : HoldsFields bs n u all top count = subst (λ x. HoldsFields bs n u x top count) (sym e) b.lie in
     record_made bs n all u top count (5 * how_many_fields all) lie room (omega (arith, as_many bs n u all top count lie))
 
-pub one_made : (p : Place) (v : Value) (m : List ℕ) (top : ℕ) (n : List ℕ) → Pushes top (record { name = p; value = v }) m n true → MakesField p v m top n (Some (record { value = Record (record { start = top; count = 1 }); top = top + 5 }))
+-- a record of one field was made, or there was no room for it
+pub one_made : {p : Place} {v : Value} {m n : Memory} {start : ℕ} → Pushed 5 loaded_field (record { name = p; value = v }) m n start →
+    MakesField p v (all m) m.top (all n) (Some (record { value = Record (record { start = start; count = 1 }); top = n.top }))
 unfolding how_many_fields
-one_made p v m top n (s, room) =
-    let kept : Kept top m n = stored_field_kept s (omega arith) in
+one_made {p} {v} {m} {n} {start} s =
     let f : Field = record { name = p; value = v } in
-    let z : top + 5 * 0 ≡ top = omega arith in
+    let z : m.top + 5 * 0 ≡ m.top = omega arith in
+    let end : n.top ≡ m.top + 5 * 1 = s.moved.top in
     record {
-      kept = kept;
+      kept = stored_field_kept s.put (omega arith);
       means = λ bs u a d sp h low.
-          let b : Built bs n top 1 u (field a d no_field) no_field =
-          built_push bs m n top 0 u (field a d no_field) (field a d no_field) no_field f low (built_none bs m top u (field a d no_field)) (record { called = a; datum = d; is = refl; spelled = sp; holds = h }) (subst (λ x. StoredField x f m n) (sym z) s) in
-          built_made bs n top 1 u (field a d no_field) b (omega (arith, s.long));
+          let b : Built bs (all n) m.top 1 u (field a d no_field) no_field =
+          built_push bs (all m) (all n) m.top 0 u (field a d no_field) (field a d no_field) no_field f low (built_none bs (all m) m.top u (field a d no_field)) (record { called = a; datum = d; is = refl; spelled = sp; holds = h }) (subst (λ x. StoredField x f (all m) (all n)) (sym z) s.put) in
+          rw (s.begins, end) (built_made bs (all n) m.top 1 u (field a d no_field) b (omega (arith, n.within, length-append n.kept.now n.made.now, end)));
     }
 
-pub one_no_room : (p : Place) (v : Value) (m : List ℕ) (top : ℕ) (n : List ℕ) → Pushes top (record { name = p; value = v }) m n false → MakesField p v m top n None
-one_no_room p v m top n (e, h) = record { kept = subst (λ x. Kept top m x) (sym e) kept_refl; means = λ bs u a d sp k low. omega (arith, ap length e) }
+pub one_no_room : {p : Place} {v : Value} {m n : Memory} → Crowded m n 5 → MakesField p v (all m) m.top (all n) None
+one_no_room {m = m} c = record { kept = subst (λ x. Kept m.top (all m) x) (sym c.words) kept_refl; means = λ bs u a d sp k low. omega (arith, ap length c.words, c.short) }

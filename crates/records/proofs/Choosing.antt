@@ -1,183 +1,174 @@
--- A record without a field, and some fields of a record.
-use Rattle.std.proofs.Common.{◌≡◌, ℕ, ◌+◌, ◌*◌, ◌<◌, ◌≤◌, Bool, true, false, List, length, Some, None, sym, refl, ap, ◌∙◌, subst, true≢false, arith}
+-- Some fields of a record: a record without a field, and the fields with certain names.
+use Rattle.std.proofs.Common.{◌≡◌, ℕ, ◌+◌, ◌*◌, ◌<◌, ◌≤◌, Bool, true, false, nat_le, List, length, Some, None, Option, sym, refl, ap, ◌∙◌, subst, arith, length-append}
+use Rattle.std.proofs.lemmas.Bool.{le-leb, lt-leb, leb-true, leb-false}
 use Rattle.query.specs.Data.{pick, same_text, Name, Data, Fields, no_field, field, left_out, one_of, only}
-use Rattle.values.specs.Memory.{Used, Spelled, loaded_field, Kept}
+use Rattle.values.specs.Memory.{Used, Spelled, Holds, loaded_field, Kept, StoredField, Agree}
+use Rattle.values.specs.Lent.{all, Pushed, Crowded}
 use Rattle.values.specs.Making.{RecordLies}
-use Rattle.values.proofs.Frame.{kept_refl, kept_trans}
+use Rattle.values.proofs.Frame.{kept_refl, kept_trans, kept_agree, slot_same, holds_kept}
+use Rattle.values.specs.declared.lent.Memory.{Memory}
 use Rattle.values.specs.declared.value.Place.{Place}
 use Rattle.values.specs.declared.value.Field.{Field}
+use Rattle.values.specs.Made.{Made}
 use Rattle.values.specs.declared.value.Value.TheVariants.{Record}
 use Rattle.records.specs.Parts.{rest_fields}
-use Rattle.records.specs.Records.{Pushes, Next, LeavesThis, LeavesOut, NamesStand, IsOneOf, TakesOnly}
-use Rattle.records.proofs.Fields.{field_at, rest_all, record_kept}
+use Rattle.records.specs.Records.{FieldsBelow, IsNamed, FindsIndex, Next, ToCome, Keeps, LeavesOut, IsOneOf, TakesOnly}
+use Rattle.records.proofs.Fields.{field_at, rest_all}
 use Rattle.records.proofs.Building.{Built, built_none, built_as, built_push, built_short, built_made, stored_field_kept}
 
--- the field of a record at a place, in memory that was written above
-there : {bs m n : List ℕ} {p : Place} {top i : ℕ} (f : Field) → Kept top m n → i < p.count → f ≡ loaded_field n (p.start + 5 * i) → {u : Used} {fs : Fields} → RecordLies bs m p fs u top → Next bs n u (rest_fields i fs) (rest_fields (i + 1) fs) f
-there {bs} {m} {n} {p} {top} {i} f k lt e {u} {fs} r = subst (λ z. Next bs n u (rest_fields i fs) (rest_fields (i + 1) fs) z) (sym e) (field_at bs n u fs p.start p.count i (record_kept k r).lie lt)
+field_same : (m n : List ℕ) (at top : ℕ) → Kept top m n → at + 5 ≤ top → loaded_field n at ≡ loaded_field m at
+unfolding loaded_field
+field_same m n at top k h = rw (k.same at (omega arith), k.same (at + 1) (omega arith), slot_same m n (at + 2) (λ i l t. k.same i (omega arith))) refl
 
-ended : {bs m : List ℕ} {p : Place} {top i : ℕ} → i ≡ p.count → {u : Used} {fs : Fields} → RecordLies bs m p fs u top → rest_fields i fs ≡ no_field
-ended {bs} {m} {p} {top} {i} e {u} {fs} r = ap (λ x. rest_fields x fs) e ∙ rest_all bs m u fs p.start p.count r.lie
+-- so many fields were gone through, and so many of them kept
+pub record Keeping (told : ℕ → Place → Bool → Type 0) (p : Place) (m n : Memory) (i count : ℕ) : Type 0 where
+  pub frozen : n.kept.now ≡ m.kept.now
+  pub top : n.top ≡ m.top + 5 * count
+  pub kept : Kept m.top (all m) (all n)
+  pub so_far : (bs : List ℕ) (u : Used) (fs : Fields) (to_come : ℕ → Fields) → RecordLies bs (all m) p fs u m.top → ToCome told bs (all m) p u fs to_come → Built bs (all n) m.top count u (to_come 0) (to_come i)
 
--- what is still to come: once the field was found, all
-unfoldable pub to_leave : Bool → Name → Fields → Fields
-to_leave true a fs = fs
-to_leave false a fs = left_out a fs
+pub keep_begins : (told : ℕ → Place → Bool → Type 0) (p : Place) (m : Memory) → Keeping told p m m 0 0
+keep_begins told p m = record { frozen = refl; top = omega arith; kept = kept_refl; so_far = λ bs u fs c r s. built_none bs (all m) m.top u (c 0) }
 
-leave_none : (b : Bool) (a : Name) → to_leave b a no_field ≡ no_field
-unfolding to_leave left_out
-leave_none true a = refl
-leave_none false a = refl
+module _ (told : ℕ → Place → Bool → Type 0) (p : Place) (m n : Memory) (i count : ℕ) (g : Keeping told p m n i count) where
+  module _ (below : FieldsBelow p m.top) (f : Field) (lt : i < p.count) (e : f ≡ loaded_field (all n) (p.start + 5 * i)) where
+    at_first : f ≡ loaded_field (all m) (p.start + 5 * i)
+    at_first = e ∙ field_same (all m) (all n) (p.start + 5 * i) m.top g.kept (below.spots i lt)
 
-leave_this : (a b : Name) (d : Data) (fs : Fields) → true ≡ same_text a b → to_leave false a (field b d fs) ≡ to_leave true a fs
-unfolding to_leave left_out pick
-leave_this a b d fs h = rw (sym h)
+    told_first : (b : Bool) → told i f.name b → told i (loaded_field (all m) (p.start + 5 * i)).name b
+    told_first b t = subst (λ (h : Field). told i h.name b) at_first t
 
-leave_other : (a b : Name) (d : Data) (fs : Fields) → false ≡ same_text a b → to_leave false a (field b d fs) ≡ field b d (to_leave false a fs)
-unfolding to_leave left_out pick
-leave_other a b d fs h = rw (sym h)
+    pub keep_not : told i f.name false → Keeping told p m n (i + 1) count
+    unfolding pick
+    keep_not t =
+        record {
+          frozen = g.frozen;
+          top = g.top;
+          kept = g.kept;
+          so_far = λ bs u fs c r s.
+              built_as (c i) (c (i + 1)) (s.step i false lt (told_first false t) (field_at bs (all m) u fs p.start p.count i r.lie lt)) (g.so_far bs u fs c r s);
+        }
 
-leave_more : (a b : Name) (d : Data) (fs : Fields) → to_leave true a (field b d fs) ≡ field b d (to_leave true a fs)
-unfolding to_leave
-leave_more a b d fs = refl
+    goes : told i f.name true → (bs : List ℕ) (u : Used) (fs : Fields) (c : ℕ → Fields) → RecordLies bs (all m) p fs u m.top → ToCome told bs (all m) p u fs c → Next bs (all n) u (c i) (c (i + 1)) f
+    unfolding pick
+    goes t bs u fs c r s =
+        let x = field_at bs (all m) u fs p.start p.count i r.lie lt in
+        let a : Agree u (all m) (all n) = kept_agree r.low g.kept in
+        record {
+          called = x.called;
+          datum = x.datum;
+          is = s.step i true lt (told_first true t) x;
+          spelled = subst (λ (h : Field). Spelled bs x.called h.name.start h.name.count) (sym at_first) x.spelled;
+          holds = holds_kept bs u x.datum f.value a (λ k y. y) (subst (λ (h : Field). Holds bs (all m) u x.datum h.value) (sym at_first) x.holds);
+        }
 
-pub record Leaving (bs : List ℕ) (q p : Place) (m : List ℕ) (top : ℕ) (n : List ℕ) (i count : ℕ) (found : Bool) : Type 0 where
-  pub kept : Kept top m n
-  pub room : top + 5 * count ≤ length n
-  pub so_far : (a : Name) (u : Used) (fs : Fields) → Spelled bs a q.start q.count → RecordLies bs m p fs u top → Built bs n top count u (left_out a fs) (to_leave found a (rest_fields i fs))
+    pub keep_push : {o : Memory} {start : ℕ} → told i f.name true → Pushed 5 loaded_field f n o start → Keeping told p m o (i + 1) (count + 1)
+    keep_push {o} t s =
+        record {
+          frozen = s.moved.frozen ∙ g.frozen;
+          top = omega (arith, g.top, s.moved.top);
+          kept = kept_trans g.kept (stored_field_kept {top = m.top} s.put (omega (arith, g.top))) (omega arith);
+          so_far = λ bs u fs c r x.
+              built_push bs (all n) (all o) m.top count u (c 0) (c i) (c (i + 1)) f r.low (g.so_far bs u fs c r x) (goes t bs u fs c r x) (subst (λ k. StoredField k f (all n) (all o)) g.top s.put);
+        }
 
-pub leave_begins : (bs : List ℕ) (q p : Place) (m : List ℕ) (top : ℕ) → top ≤ length m → Leaving bs q p m top m 0 0 false
-unfolding rest_fields to_leave
-leave_begins bs q p m top h = record { kept = kept_refl; room = omega arith; so_far = λ a u fs sp r. built_none bs m top u (left_out a fs) }
+    pub keep_no_room : {o : Memory} → told i f.name true → Crowded n o 5 → Keeps told p (all m) m.top (all o) None
+    keep_no_room {o} t s =
+        record {
+          kept = subst (λ z. Kept m.top (all m) z) (sym s.words) g.kept;
+          means = λ bs u fs c r x.
+              let k = built_short bs (all n) m.top count u (c 0) (c i) (c (i + 1)) f (g.so_far bs u fs c r x) (goes t bs u fs c r x) in
+              omega (arith, ap length s.words, s.short, g.top);
+        }
 
-module _ (bs : List ℕ) (q p : Place) (m : List ℕ) (top : ℕ) (n : List ℕ) (i count : ℕ) where
-  -- the field has the name
-  pub leave_found : (found : Bool) (f : Field) → i < p.count → f ≡ loaded_field n (p.start + 5 * i) → Leaving bs q p m top n i count found → LeavesThis bs q f.name found true → Leaving bs q p m top n (i + 1) count true
-  leave_found true f lt e g h = absurd (true≢false h)
-  leave_found false f lt e g h =
+  pub keep_ends : i ≡ p.count → Keeps told p (all m) m.top (all n) (Some (record { value = Record (record { start = m.top; count = count }); top = n.top }))
+  keep_ends e =
       record {
         kept = g.kept;
-        room = g.room;
-        so_far = λ a u fs sp r.
-            let t = there f g.kept lt e r in
-            built_as (to_leave false a (rest_fields i fs)) (to_leave true a (rest_fields (i + 1) fs))
-            (ap (to_leave false a) t.is ∙ leave_this a t.called t.datum (rest_fields (i + 1) fs) (h.is a t.called sp t.spelled)) (g.so_far a u fs sp r);
-      }
-
-  -- a field that stays comes next
-  abbrev pub Stays : Field → Bool → Type 0
-  Stays f found = (a : Name) (u : Used) (fs : Fields) → Spelled bs a q.start q.count → RecordLies bs m p fs u top → Next bs n u (to_leave found a (rest_fields i fs)) (to_leave found a (rest_fields (i + 1) fs)) f
-
-  pub stays : (found : Bool) (f : Field) → i < p.count → f ≡ loaded_field n (p.start + 5 * i) → Leaving bs q p m top n i count found → LeavesThis bs q f.name found false → Stays f found
-  stays true f lt e g h a u fs sp r =
-      let t = there f g.kept lt e r in
-      record { called = t.called; datum = t.datum; is = ap (to_leave true a) t.is ∙ leave_more a t.called t.datum (rest_fields (i + 1) fs); spelled = t.spelled; holds = t.holds }
-  stays false f lt e g h a u fs sp r =
-      let t = there f g.kept lt e r in
-      record {
-        called = t.called;
-        datum = t.datum;
-        spelled = t.spelled;
-        holds = t.holds;
-        is = ap (to_leave false a) t.is ∙ leave_other a t.called t.datum (rest_fields (i + 1) fs) (h.is a t.called sp t.spelled);
-      }
-
-  pub leave_push : (f : Field) (found : Bool) (o : List ℕ) → Leaving bs q p m top n i count found → Stays f found → Pushes (top + 5 * count) f n o true → Leaving bs q p m top o (i + 1) (count + 1) found
-  leave_push f found o g st (s, room) =
-      record {
-        kept = kept_trans g.kept (stored_field_kept {top = top} s (omega arith)) (omega arith);
-        room = omega (arith, s.long);
-        so_far = λ a u fs sp r.
-            built_push bs n o top count u (left_out a fs) (to_leave found a (rest_fields i fs)) (to_leave found a (rest_fields (i + 1) fs)) f r.low (g.so_far a u fs sp r) (st a u fs sp r) s;
-      }
-
-  pub leave_no_room : (f : Field) (found : Bool) (o : List ℕ) → Leaving bs q p m top n i count found → Stays f found → Pushes (top + 5 * count) f n o false → LeavesOut bs q p m top o None
-  leave_no_room f found o g st (e, short) =
-      record {
-        kept = subst (λ z. Kept top m z) (sym e) g.kept;
-        means = λ a u fs sp r.
-            let k = built_short bs n top count u (left_out a fs) (to_leave found a (rest_fields i fs)) (to_leave found a (rest_fields (i + 1) fs)) f (g.so_far a u fs sp r) (st a u fs sp r) in
-            omega (arith, ap length e);
-      }
-
-  pub leave_ends : (found : Bool) → Leaving bs q p m top n i count found → i ≡ p.count → LeavesOut bs q p m top n (Some (record { value = Record (record { start = top; count = count }); top = top + 5 * count }))
-  leave_ends found g e =
-      record {
-        kept = g.kept;
-        means = λ a u fs sp r.
-            let z : to_leave found a (rest_fields i fs) ≡ no_field = ap (to_leave found a) (ended e r) ∙ leave_none found a in
-            built_made bs n top count u (left_out a fs) (built_as (to_leave found a (rest_fields i fs)) no_field z (g.so_far a u fs sp r)) g.room;
+        means = λ bs u fs c r x.
+            rw g.top (built_made bs (all n) m.top count u (c 0) (built_as (c i) no_field (ap c e ∙ x.ends) (g.so_far bs u fs c r x)) (omega (arith, n.within, length-append n.kept.now n.made.now, g.top)));
       }
 
 -- fields whose names are among some
-take_this : (ns : List Name) (b : Name) (d : Data) (fs : Fields) → true ≡ one_of b ns → only ns (field b d fs) ≡ field b d (only ns fs)
+take_step : (ns : List Name) (a : Name) (d : Data) (fs : Fields) (b : Bool) → b ≡ one_of a ns → only ns (field a d fs) ≡ pick b (field a d (only ns fs)) (only ns fs)
 unfolding only pick
-take_this ns b d fs h = rw (sym h)
-
-take_other : (ns : List Name) (b : Name) (d : Data) (fs : Fields) → false ≡ one_of b ns → only ns (field b d fs) ≡ only ns fs
-unfolding only pick
-take_other ns b d fs h = rw (sym h)
+take_step ns a d fs b h = rw h refl
 
 take_none : (ns : List Name) → only ns no_field ≡ no_field
 unfolding only
 take_none ns = refl
 
-pub record Taking (bs : List ℕ) (at k : ℕ) (p : Place) (m : List ℕ) (top : ℕ) (n : List ℕ) (i count : ℕ) : Type 0 where
-  pub kept : Kept top m n
-  pub room : top + 5 * count ≤ length n
-  pub so_far : (ns : List Name) (u : Used) (fs : Fields) → NamesStand bs at k ns → RecordLies bs m p fs u top → Built bs n top count u (only ns fs) (only ns (rest_fields i fs))
-
-pub take_begins : (bs : List ℕ) (at k : ℕ) (p : Place) (m : List ℕ) (top : ℕ) → top ≤ length m → Taking bs at k p m top m 0 0
+pub takes_only : (bs : List ℕ) (at k : ℕ) (told : ℕ → Place → Bool → Type 0) (p : Place) (m : List ℕ) (top : ℕ) (n : List ℕ) (r : Option Made) → ((i : ℕ) (q : Place) (b : Bool) → told i q b → IsOneOf bs at k q b) → Keeps told p m top n r → TakesOnly bs at k p m top n r
 unfolding rest_fields
-take_begins bs at k p m top h = record { kept = kept_refl; room = omega arith; so_far = λ ns u fs sp r. built_none bs m top u (only ns fs) }
+takes_only bs at k told p m top n r h s =
+    record {
+      kept = s.kept;
+      means = λ ns u fs st l.
+          s.means bs u fs (λ i. only ns (rest_fields i fs)) l (record {
+            step = λ i b lt t x. ap (only ns) x.is ∙ take_step ns x.called x.datum (rest_fields (i + 1) fs) b ((h i _ b t).means x.called ns x.spelled st);
+            ends = ap (only ns) (rest_all bs m u fs p.start p.count l.lie) ∙ take_none ns;
+          });
+    }
 
-module _ (bs : List ℕ) (at k : ℕ) (p : Place) (m : List ℕ) (top : ℕ) (n : List ℕ) (i count : ℕ) (g : Taking bs at k p m top n i count) where
-  module _ (f : Field) (lt : i < p.count) (e : f ≡ loaded_field n (p.start + 5 * i)) where
-    pub take_not : IsOneOf bs at k f.name false → Taking bs at k p m top n (i + 1) count
-    take_not h =
-        record {
-          kept = g.kept;
-          room = g.room;
-          so_far = λ ns u fs sp r.
-              let t = there f g.kept lt e r in
-              built_as (only ns (rest_fields i fs)) (only ns (rest_fields (i + 1) fs))
-              (ap (only ns) t.is ∙ take_other ns t.called t.datum (rest_fields (i + 1) fs) (h.means t.called ns t.spelled sp)) (g.so_far ns u fs sp r);
-        }
+-- A record without the first field with a name: up to that field what is to come is without the name, and after it all of it is.
+unfoldable to_leave : Option ℕ → Name → Fields → ℕ → Fields
+to_leave None a fs i = left_out a (rest_fields i fs)
+to_leave (Some g) a fs i = pick (nat_le i g) (left_out a (rest_fields i fs)) (rest_fields i fs)
 
-    taken : IsOneOf bs at k f.name true → (ns : List Name) (u : Used) (fs : Fields) → NamesStand bs at k ns → RecordLies bs m p fs u top → Next bs n u (only ns (rest_fields i fs)) (only ns (rest_fields (i + 1) fs)) f
-    taken h ns u fs sp r =
-        let t = there f g.kept lt e r in
-        record {
-          called = t.called;
-          datum = t.datum;
-          spelled = t.spelled;
-          holds = t.holds;
-          is = ap (only ns) t.is ∙ take_this ns t.called t.datum (rest_fields (i + 1) fs) (h.means t.called ns t.spelled sp);
-        }
+leave_this : (a b : Name) (d : Data) (fs : Fields) → true ≡ same_text a b → left_out a (field b d fs) ≡ fs
+unfolding left_out pick
+leave_this a b d fs h = rw (sym h)
 
-    pub take_push : (o : List ℕ) → IsOneOf bs at k f.name true → Pushes (top + 5 * count) f n o true → Taking bs at k p m top o (i + 1) (count + 1)
-    take_push o h (s, room) =
-        record {
-          kept = kept_trans g.kept (stored_field_kept {top = top} s (omega arith)) (omega arith);
-          room = omega (arith, s.long);
-          so_far = λ ns u fs sp r.
-              built_push bs n o top count u (only ns fs) (only ns (rest_fields i fs)) (only ns (rest_fields (i + 1) fs)) f r.low (g.so_far ns u fs sp r) (taken h ns u fs sp r) s;
-        }
+leave_other : (a b : Name) (d : Data) (fs : Fields) → false ≡ same_text a b → left_out a (field b d fs) ≡ field b d (left_out a fs)
+unfolding left_out pick
+leave_other a b d fs h = rw (sym h)
 
-    pub take_no_room : (o : List ℕ) → IsOneOf bs at k f.name true → Pushes (top + 5 * count) f n o false → TakesOnly bs at k p m top o None
-    take_no_room o h (e2, short) =
-        record {
-          kept = subst (λ z. Kept top m z) (sym e2) g.kept;
-          means = λ ns u fs sp r.
-              let l = built_short bs n top count u (only ns fs) (only ns (rest_fields i fs)) (only ns (rest_fields (i + 1) fs)) f (g.so_far ns u fs sp r) (taken h ns u fs sp r) in
-              omega (arith, ap length e2);
-        }
+leave_none : (a : Name) → left_out a no_field ≡ no_field
+unfolding left_out
+leave_none a = refl
 
-  pub take_ends : i ≡ p.count → TakesOnly bs at k p m top n (Some (record { value = Record (record { start = top; count = count }); top = top + 5 * count }))
-  take_ends e =
-      record {
-        kept = g.kept;
-        means = λ ns u fs sp r.
-            let z : only ns (rest_fields i fs) ≡ no_field = ap (only ns) (ended e r) ∙ take_none ns in
-            built_made bs n top count u (only ns fs) (built_as (only ns (rest_fields i fs)) no_field z (g.so_far ns u fs sp r)) g.room;
-      }
+leave_first : (gone : Option ℕ) (a : Name) (fs : Fields) → to_leave gone a fs 0 ≡ left_out a fs
+unfolding to_leave rest_fields pick
+leave_first None a fs = refl
+leave_first (Some g) a fs = rw (le-leb 0 g (omega arith)) refl
+
+module _ (bs : List ℕ) (q p : Place) (told : ℕ → Place → Bool → Type 0) (m : List ℕ) (a : Name) (u : Used) (fs : Fields) (sp : Spelled bs a q.start q.count) where
+  leave_step : (gone : Option ℕ) → FindsIndex bs q p m gone → (i : ℕ) (b : Bool) → i < p.count → (b ≡ true → gone ≡ Some i → ⊥) → (b ≡ false → gone ≡ Some i) →
+      (t : Next bs m u (rest_fields i fs) (rest_fields (i + 1) fs) (loaded_field m (p.start + 5 * i))) → to_leave gone a fs i ≡ pick b (field t.called t.datum (to_leave gone a fs (i + 1))) (to_leave gone a fs (i + 1))
+  unfolding to_leave pick
+  leave_step None f i true lt ne eq t = ap (left_out a) t.is ∙ leave_other a t.called t.datum (rest_fields (i + 1) fs) ((f i lt).is a t.called sp t.spelled)
+  leave_step None f i false lt ne eq t = absurd (let z : None ≡ Some i = eq refl in let y : ⊥ = cc in y)
+  leave_step (Some g) f i b lt ne eq t = by b refl (nat_le i g) refl (nat_le (i + 1) g) refl
+    where
+      next : Fields
+      next = rest_fields (i + 1) fs
+
+      To : Bool → Bool → Bool → Type 0
+      To b x y = pick x (left_out a (rest_fields i fs)) (rest_fields i fs) ≡ pick b (field t.called t.datum (pick y (left_out a next) next)) (pick y (left_out a next) next)
+
+      by : (c : Bool) → b ≡ c → (x : Bool) → nat_le i g ≡ x → (y : Bool) → nat_le (i + 1) g ≡ y → To c x y
+      by true h true hx true hy = ap (left_out a) t.is ∙ leave_other a t.called t.datum next ((f.2 i (omega (arith, leb-true (i + 1) g hy))).is a t.called sp t.spelled)
+      by true h true hx false hy = absurd (ne h (ap Some (omega (arith, leb-true i g hx, leb-false (i + 1) g hy))))
+      by true h false hx true hy = absurd (let z : ⊥ = omega (arith, leb-false i g hx, leb-true (i + 1) g hy) in z)
+      by true h false hx false hy = t.is
+      by false h true hx true hy = absurd (let z : Some g ≡ Some i = eq h in let y : g ≡ i = cc in let w : ⊥ = omega (arith, leb-true (i + 1) g hy) in w)
+      by false h true hx false hy = ap (left_out a) t.is ∙ leave_this a t.called t.datum next ((subst (λ k. IsNamed bs q p m k true) (let w : g ≡ i = omega (arith, leb-true i g hx, leb-false (i + 1) g hy) in w) f.1).is a t.called sp t.spelled)
+      by false h false hx true hy = absurd (let z : ⊥ = omega (arith, leb-false i g hx, leb-true (i + 1) g hy) in z)
+      by false h false hx false hy = absurd (let z : Some g ≡ Some i = eq h in let y : g ≡ i = cc in let w : ⊥ = omega (arith, leb-false i g hx) in w)
+
+  leave_ends : (gone : Option ℕ) → FindsIndex bs q p m gone → rest_fields p.count fs ≡ no_field → to_leave gone a fs p.count ≡ no_field
+  unfolding to_leave pick
+  leave_ends None f e = ap (left_out a) e ∙ leave_none a
+  leave_ends (Some g) f e = rw (lt-leb p.count g f.0) e
+
+pub leaves_out : (bs : List ℕ) (q p : Place) (told : ℕ → Place → Bool → Type 0) (m : List ℕ) (top : ℕ) (n : List ℕ) (r : Option Made) (gone : Option ℕ) → FindsIndex bs q p m gone →
+    ((i : ℕ) (q : Place) (b : Bool) → told i q b → (b ≡ true → gone ≡ Some i → ⊥) × (b ≡ false → gone ≡ Some i)) → Keeps told p m top n r → LeavesOut bs q p m top n r
+leaves_out bs q p told m top n r gone f h s =
+    record {
+      kept = s.kept;
+      means = λ a u fs sp l.
+          rw (← leave_first gone a fs) (s.means bs u fs (to_leave gone a fs) l (record {
+            step = λ i b lt t x. leave_step bs q p told m a u fs sp gone f i b lt (h i _ b t).0 (h i _ b t).1 x;
+            ends = leave_ends bs q p told m a u fs sp gone f (rest_all bs m u fs p.start p.count l.lie);
+          }));
+    }

@@ -1,14 +1,15 @@
 -- Names of different lengths, and a field by its name.
-use Rattle.std.proofs.Common.{◌≡◌, ℕ, ◌+◌, ◌*◌, ◌<◌, Bool, true, false, List, [], ◌∷◌, length, get_or, drop, Some, None, sym, refl, ap, ◌∙◌, subst, arith, length-drop, length-take-le}
-use Rattle.query.specs.Data.{pick, same_text, Name, Data, Fields, no_field, field, get}
+use Rattle.std.proofs.Common.{◌≡◌, ℕ, zero, suc, ◌+◌, ◌*◌, ◌<◌, ◌≤◌, Bool, true, false, List, [], ◌∷◌, length, drop, Some, None, Option, sym, refl, ap, ◌∙◌, subst, add-one, arith, length-drop, length-take-le}
+use Rattle.std.specs.Option.{MatchOption}
+use Rattle.query.specs.Data.{pick, same_text, Name, Data, Fields, field, get}
 use Rattle.query.proofs.Texts.{same_text_true}
-use Rattle.values.specs.Memory.{Used, Spelled, Holds, loaded, loaded_field}
+use Rattle.values.specs.Memory.{Used, Spelled, Holds, loaded_field}
 use Rattle.values.specs.Making.{RecordLies}
 use Rattle.values.specs.declared.value.Place.{Place}
-use Rattle.values.specs.declared.value.Value.{Value}
+use Rattle.values.specs.declared.value.Field.{Field}
 use Rattle.compare.specs.Compare.{MatchesTexts}
 use Rattle.records.specs.Parts.{rest_fields}
-use Rattle.records.specs.Records.{Finds, Next}
+use Rattle.records.specs.Records.{IsNamed, FindsIndex, Finds}
 use Rattle.records.proofs.Fields.{field_at, rest_all}
 
 spelled_long : {bs t : List ℕ} {start count : ℕ} → Spelled bs t start count → length t ≡ count
@@ -21,14 +22,6 @@ differ bs a b h = record { is = λ s t p q. by s t (spelled_long p) (spelled_lon
     by s t p q true e = absurd (h (sym p ∙ ap length (same_text_true s t e) ∙ q))
     by s t p q false e = refl
 
--- a name was not among the first fields
-pub record Unfound (bs : List ℕ) (q p : Place) (m : List ℕ) (i : ℕ) : Type 0 where
-  pub so_far : (a : Name) (u : Used) (fs : Fields) (top : ℕ) → Spelled bs a q.start q.count → RecordLies bs m p fs u top → get a fs ≡ get a (rest_fields i fs)
-
-pub none_found : (bs : List ℕ) (q p : Place) (m : List ℕ) → Unfound bs q p m 0
-unfolding rest_fields
-none_found bs q p m = record { so_far = λ a u fs top s r. refl }
-
 get_other : (a b : Name) (d : Data) (fs : Fields) → false ≡ same_text a b → get a (field b d fs) ≡ get a fs
 unfolding get pick
 get_other a b d fs h = rw (sym h)
@@ -37,43 +30,38 @@ get_this : (a b : Name) (d : Data) (fs : Fields) → true ≡ same_text a b → 
 unfolding get pick
 get_this a b d fs h = rw (sym h)
 
-module _ (bs : List ℕ) (q p : Place) (m : List ℕ) (i : ℕ) (s : Unfound bs q p m i) (start count : ℕ) (lt : i < p.count) (e : start ≡ get_or m (p.start + 5 * i) 0) (f : count ≡ get_or m (p.start + 5 * i + 1) 0) where
-  there : (u : Used) (fs : Fields) (top : ℕ) → RecordLies bs m p fs u top → Next bs m u (rest_fields i fs) (rest_fields (i + 1) fs) (record { name = record { start = start; count = count }; value = loaded m (p.start + 5 * i + 2) })
-  unfolding loaded_field
-  there u fs top r =
-      let t = field_at bs m u fs p.start p.count i r.lie lt in
-      record {
-        called = t.called;
-        datum = t.datum;
-        is = t.is;
-        holds = t.holds;
-        spelled = subst (λ x. Spelled bs t.called x count) (sym e) (subst (λ x. Spelled bs t.called (get_or m (p.start + 5 * i) 0) x) (sym f) t.spelled);
-      }
+module _ (bs : List ℕ) (q p : Place) (m : List ℕ) where
+  -- the first fields have other names
+  get_past : (i : ℕ) → i ≤ p.count → ((k : ℕ) → k < i → IsNamed bs q p m k false) → (a : Name) (u : Used) (fs : Fields) (top : ℕ) → Spelled bs a q.start q.count → RecordLies bs m p fs u top → get a fs ≡ get a (rest_fields i fs)
+  unfolding rest_fields
+  get_past zero le h a u fs top sp r = refl
+  get_past (suc i) le h a u fs top sp r =
+      let t = field_at bs m u fs p.start p.count i r.lie (omega arith) in
+      get_past i (omega arith) (λ k lt. h k (omega arith)) a u fs top sp r
+      ∙ ap (get a) t.is
+      ∙ get_other a t.called t.datum (rest_fields (i + 1) fs) ((h i (omega arith)).is a t.called sp t.spelled)
+      ∙ ap (λ k. get a (rest_fields k fs)) (add-one i)
 
-  pub not_this : MatchesTexts bs q (record { start = start; count = count }) false → Unfound bs q p m (i + 1)
-  not_this h =
-      record {
-        so_far = λ a u fs top sp r.
-            let t = there u fs top r in
-            s.so_far a u fs top sp r ∙ ap (get a) t.is ∙ get_other a t.called t.datum (rest_fields (i + 1) fs) (h.is a t.called sp t.spelled);
-      }
-
-  pub this_one : (v : Value) → v ≡ loaded m (p.start + 5 * i + 2) → MatchesTexts bs q (record { start = start; count = count }) true → Finds bs q p m (Some v)
-  this_one v g h =
+  pub this_one : (i : ℕ) (f : Field) → FindsIndex bs q p m (Some i) → f ≡ loaded_field m (p.start + 5 * i) → Finds bs q p m (Some f.value)
+  this_one i f (lt, h, others) e =
       record {
         means = λ a u fs top sp r.
-            let t = there u fs top r in (
+            let t = field_at bs m u fs p.start p.count i r.lie lt in (
               t.datum,
-              s.so_far a u fs top sp r ∙ ap (get a) t.is ∙ get_this a t.called t.datum (rest_fields (i + 1) fs) (h.is a t.called sp t.spelled),
-              subst (λ x. Holds bs m u t.datum x) (sym g) t.holds,
+              get_past i (omega arith) others a u fs top sp r ∙ ap (get a) t.is ∙ get_this a t.called t.datum (rest_fields (i + 1) fs) (h.is a t.called sp t.spelled),
+              subst (λ (g : Field). Holds bs m u t.datum g.value) (sym e) t.holds,
             );
       }
 
-pub not_there : (bs : List ℕ) (q p : Place) (m : List ℕ) (i : ℕ) → Unfound bs q p m i → i ≡ p.count → Finds bs q p m None
-unfolding get
-not_there bs q p m i s e =
-    record {
-      means = λ a u fs top sp r.
-          let z : rest_fields i fs ≡ no_field = ap (λ x. rest_fields x fs) e ∙ rest_all bs m u fs p.start p.count r.lie in
-          s.so_far a u fs top sp r ∙ ap (get a) z;
-    }
+  pub not_there : FindsIndex bs q p m None → Finds bs q p m None
+  unfolding get
+  not_there h =
+      record {
+        means = λ a u fs top sp r. get_past p.count (omega arith) h a u fs top sp r ∙ ap (get a) (rest_all bs m u fs p.start p.count r.lie);
+      }
+
+-- what was found of the fields' numbers
+pub first_is : (bs : List ℕ) (q p : Place) (m : List ℕ) (r : Option ℕ) →
+    MatchOption r ((k : ℕ) → 0 ≤ k → k < p.count → IsNamed bs q p m k false) (λ i. (0 ≤ i) × (i < p.count) × IsNamed bs q p m i true × ((k : ℕ) → 0 ≤ k → k < i → IsNamed bs q p m k false)) → FindsIndex bs q p m r
+first_is bs q p m None h = λ k lt. h k (omega arith) lt
+first_is bs q p m (Some i) h = (h.1, h.2, λ k lt. h.3 k (omega arith) lt)

@@ -77,9 +77,6 @@ pub record Looking (bs : List ℕ) (at k : ℕ) (q : Place) (left here : ℕ) : 
   pub within : here ≤ length bs
   pub so_far : (a : Name) (ns : List Name) → Spelled bs a q.start q.count → NamesStand bs at k ns → (ms : List Name) × (one_of a ns ≡ one_of a ms) × NamesStand bs here left ms
 
-pub look_begins : (bs : List ℕ) (at k : ℕ) (q : Place) → at ≤ length bs → Looking bs at k q k at
-look_begins bs at k q l = record { within = l; so_far = λ a ns sp s. (ns, refl, s) }
-
 is_this : (a b : Name) (ms : List Name) → true ≡ same_text a b → one_of a (b ∷ ms) ≡ true
 unfolding one_of
 is_this a b ms h = ap (λ (z : Bool). z || one_of a ms) (sym h)

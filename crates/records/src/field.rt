@@ -1,39 +1,36 @@
 // A field of a record, by its name.
-ghost use Rattle.std.specs.Prelude.{◌+◌, ◌^◌, ◌<◌, ◌++◌, length};
+ghost use Rattle.std.specs.Prelude.{length};
+ghost use Rattle.values.specs.Lent.{words};
 ghost use Rattle.compare.specs.Compare.{MatchesTexts};
-ghost use Rattle.records.specs.Records.{FieldsBelow, Finds};
+ghost use Rattle.records.specs.Records.{FieldsBelow, FindsIndex, Finds};
 
 use compare::same_name;
-use values::memory::{load, word};
-use values::value::{Place, Value};
+use values::row::Row;
+use values::value::{Field, Place, Value};
 
 // Whether two names are the same. Names of different lengths differ, so their bytes need no look.
 pub fn is_named(bytes: &[u8], a: Place, b: Place) -> bool
     ensures { MatchesTexts bytes.now a b result }
 {
-    if a.count != b.count {
-        return false;
-    }
-    same_name(bytes, a, b)
+    a.count == b.count && same_name(bytes, a, b)
+}
+
+// The number of the first field with a name, of a record's fields.
+pub fn index_of(bytes: &[u8], row: &Row, name: Place, place: Place) -> Option<usize>
+    requires { FieldsBelow place (length (words row.now)) }
+    ensures { FindsIndex bytes.now name place (words row.now) result }
+{
+    (0..place.count).find(|i| {
+        let field = row.nth::<Field>(place.start, *i);
+        is_named(bytes, name, field.name)
+    })
 }
 
 // What a record has under a name.
-pub fn field(bytes: &[u8], base: &[u64], mem: &[u64], name: Place, place: Place) -> Option<Value>
-    requires fits { length base.now + length mem.now < 2 ^ 64 }
-    requires below { FieldsBelow place (length base.now + length mem.now) }
-    ensures { Finds bytes.now name place (base.now ++ mem.now) result }
+pub fn field(bytes: &[u8], row: &Row, name: Place, place: Place) -> Option<Value>
+    requires { FieldsBelow place (length (words row.now)) }
+    ensures { Finds bytes.now name place (words row.now) result }
 {
-    for i in 0..place.count {
-        let here = place.start + 5 * i;
-        let start = word(base, mem, here);
-        let count = word(base, mem, here + 1);
-        let other = Place {
-            start: start as usize,
-            count: count as usize,
-        };
-        if is_named(bytes, name, other) {
-            return Some(load(base, mem, here + 2));
-        }
-    }
-    None
+    let i = index_of(bytes, row, name, place)?;
+    Some(row.nth::<Field>(place.start, i).value)
 }

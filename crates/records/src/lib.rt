@@ -6,3 +6,4 @@ pub mod choose;
 pub mod field;
 pub mod join;
 pub mod laws;
+mod pair;

@@ -5,6 +5,7 @@ mod trip;
 
 use serving::fault::Fault;
 use serving::requests::Requests;
+use serving::status;
 use std::process::ExitCode;
 use trip::{Tally, there_and_back};
 
@@ -18,7 +19,7 @@ fn run(rt: &HostRuntime) -> Result<(), Fault> {
     memory.resize(LENT, 0)?;
     let mut written = Vec::new(heap);
     written.resize(LENT, 0)?;
-    let mut all = Tally { tables: 0, same: 0 };
+    let mut all = Tally::default();
     for _ in 0..u64::MAX {
         if !requests.advance()? {
             break;
@@ -32,15 +33,9 @@ fn run(rt: &HostRuntime) -> Result<(), Fault> {
         all.same = all.same.wrapping_add(more.same);
     }
     let (tables, same) = (all.tables, all.same);
-    match println!(rt; "{tables} tables, {same} written back as they stood") {
-        Ok(()) => Ok(()),
-        Err(e) => Err(Fault::CannotWrite(e)),
-    }
+    println!(rt; "{tables} tables, {same} written back as they stood").map_err(Fault::CannotWrite)
 }
 
 fn main(rt: HostRuntime) -> ExitCode {
-    match run(&rt) {
-        Ok(()) => ExitCode::SUCCESS,
-        Err(_fault) => ExitCode::FAILURE,
-    }
+    status(run(&rt))
 }

@@ -3,11 +3,16 @@ use checks::{LIMIT, of_schema, within_limit};
 use format::node::{Ask, Request};
 use format::requests::read_request;
 use loading::data::load_data;
-use loading::loaded::Loaded;
+use loading::loaded::{Loaded, Spot};
+use values::lent::Memory;
+use values::row::Row;
 use writing::out::write_out;
 
+// Where the types of the schema stand in a request to ask: after its tag and their count.
+const TYPES_AT: usize = 5;
+
 // How many tables there were, and how many were written back as they stood.
-#[derive(Clone, Copy)]
+#[derive(Clone, Copy, Default)]
 pub struct Tally {
     pub tables: u64,
     pub same: u64,
@@ -15,15 +20,11 @@ pub struct Tally {
 
 // Whether numbers are bytes, one by one.
 fn are_bytes(numbers: &[u64], bytes: &[u8]) -> bool {
-    if numbers.len() != bytes.len() {
-        return false;
-    }
-    for i in 0..numbers.len() {
-        if numbers[i] != bytes[i] as u64 {
-            return false;
-        }
-    }
-    true
+    numbers.len() == bytes.len()
+        && numbers
+            .iter()
+            .zip(bytes)
+            .all(|(number, byte)| *number == u64::from(*byte))
 }
 
 // Loads the table at a place, of the type at another, into all of the memory.
@@ -31,24 +32,36 @@ fn load(bytes: &[u8], at: usize, ty: usize, mem: &mut [u64]) -> Option<Loaded> {
     if at > bytes.len() || ty > bytes.len() {
         return None;
     }
-    load_data(bytes, at, ty, LIMIT, &[], mem, 0)
+    let mut memory = Memory {
+        kept: &[],
+        made: mem,
+        top: 0,
+    };
+    load_data(Spot { bytes, at, ty }, LIMIT, &mut memory)
 }
 
 // Whether what was loaded is written as the bytes from the place on.
 fn is_written_back(bytes: &[u8], at: usize, loaded: Loaded, mem: &[u64], out: &mut [u64]) -> bool {
-    let Some(count) = write_out(bytes, &[], mem, loaded.value, out) else {
+    let row = Row {
+        kept: &[],
+        made: mem,
+    };
+    let Some(count) = write_out(bytes, &row, loaded.value, out) else {
         return false;
     };
-    if at > bytes.len() || count > bytes.len() - at || count > out.len() {
+    let (Some(written), Some(stood)) = (out.get(..count), bytes.get(at..)) else {
         return false;
-    }
-    count == loaded.length && are_bytes(&out[..count], &bytes[at..at + count])
+    };
+    count == loaded.length
+        && stood
+            .get(..count)
+            .is_some_and(|stood| are_bytes(written, stood))
 }
 
 fn tables_there_and_back(bytes: &[u8], ask: Ask, mem: &mut [u64], out: &mut [u64]) -> Tally {
     let mut same: u64 = 0;
     let mut at = ask.tables_at;
-    let mut ty = 5;
+    let mut ty = TYPES_AT;
     for _i in 0..ask.tables {
         let Some(loaded) = load(bytes, at, ty, mem) else {
             break;
@@ -67,15 +80,14 @@ fn tables_there_and_back(bytes: &[u8], ask: Ask, mem: &mut [u64], out: &mut [u64
 
 // The tables of a request to ask, if they are of its schema.
 pub fn there_and_back(bytes: &[u8], mem: &mut [u64], out: &mut [u64]) -> Tally {
-    let none = Tally { tables: 0, same: 0 };
     let Ok(Request::ToAsk(ask)) = read_request(bytes) else {
-        return none;
+        return Tally::default();
     };
-    if within_limit(bytes, 5, ask.types, ask.query_at).is_none() {
-        return none;
+    if within_limit(bytes, TYPES_AT, ask.types, ask.query_at).is_none() {
+        return Tally::default();
     }
-    if !of_schema(bytes, 5, ask.types, ask.tables_at, ask.tables) {
-        return none;
+    if !of_schema(bytes, TYPES_AT, ask.types, ask.tables_at, ask.tables) {
+        return Tally::default();
     }
     tables_there_and_back(bytes, ask, mem, out)
 }

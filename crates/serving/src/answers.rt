@@ -1,28 +1,13 @@
-// Requests are put to the desk, and answers turned into lines.
+// Requests are put to a desk, and the lines of its answers gathered.
 ghost use Rattle.std.specs.Prelude.{◌≡◌, ◌-◌, ◌≤◌, [], ◌++◌, replicate, vec_len, OnOk};
 
 use crate::fault::Fault;
 use crate::requests::Requests;
-use desk::answer::Answer;
-use desk::ask::answer;
-use printing::line::refusal;
+use crate::teller::Teller;
 use std::alloc::{AllocError, Global};
 
 // So many bytes of lines are gathered before they are written.
 const FULL: usize = 1048576;
-
-// Appends the line of an answer. What it comes to stands in the lent memory; `work` is whether to say how much was looked at.
-fn show_answer(
-    _heap: Global,
-    answer: Answer,
-    _lent: &[u64],
-    _work: bool,
-    out: &mut Vec<u8>,
-) -> Result<(), AllocError> {
-    match answer {
-        Answer::Refused(number, place) => refusal(number, place, out),
-    }
-}
 
 // Makes the memory large enough for so many numbers. It is used again for each request, and never cleared.
 pub fn make_large(memory: &mut Vec<u64>, numbers: usize) -> Result<(), AllocError>
@@ -35,35 +20,47 @@ pub fn make_large(memory: &mut Vec<u64>, numbers: usize) -> Result<(), AllocErro
     Ok(())
 }
 
-// Answers the request, with as many numbers lent as the file says.
-fn answer_one(
+// Answers a request, with so many numbers lent.
+pub fn answer_one<D: Teller>(
     heap: Global,
-    requests: &Requests,
+    desk: &mut D,
+    bytes: &[u8],
+    numbers: usize,
     memory: &mut Vec<u64>,
     work: bool,
     out: &mut Vec<u8>,
-) -> Result<(), AllocError> {
-    let numbers = requests.numbers();
+) -> Result<(), AllocError>
+    ensures { OnOk result (D.tells bytes.now numbers work out.old.items out.new.items) }
+{
     make_large(memory, numbers)?;
     let lent = &mut memory.as_mut_slice()[0..numbers];
-    let answer = answer(requests.bytes(), lent);
-    show_answer(heap, answer, lent, work, out)
+    desk.tell(heap, bytes, lent, work, out)
 }
 
 // Answers all requests of the file.
-pub fn answer_all(
+pub fn answer_all<D: Teller>(
     rt: &HostRuntime,
     heap: Global,
     requests: &mut Requests,
     work: bool,
     out: &mut Vec<u8>,
 ) -> Result<(), Fault> {
+    let mut desk = D::make(heap)?;
     let mut memory = Vec::new(heap);
+    // A file's end is not known beforehand, and each loop has one.
     for _ in 0..u64::MAX {
         if !requests.advance()? {
             break;
         }
-        answer_one(heap, requests, &mut memory, work, out)?;
+        answer_one(
+            heap,
+            &mut desk,
+            requests.bytes(),
+            requests.numbers(),
+            &mut memory,
+            work,
+            out,
+        )?;
         if out.len() >= FULL {
             write_out(rt, out)?;
         }
@@ -77,8 +74,5 @@ pub fn write_out(rt: &HostRuntime, out: &mut Vec<u8>) -> Result<(), Fault>
 {
     let written = rt.write_all(out.as_slice());
     out.clear();
-    match written {
-        Ok(()) => Ok(()),
-        Err(e) => Err(Fault::CannotWrite(e)),
-    }
+    written.map_err(Fault::CannotWrite)
 }

@@ -25,9 +25,7 @@ fn is_option(word: &str) -> bool
 fn call_for(work: bool, file: Option<String>, after: Option<String>) -> Result<Call, Fault>
     ensures { MatchResult result (λ c. (c.work ≡ work) × Named (λ s. string_bytes s) file after c.file) (λ e. (e ≡ faults.Usage) × Nameless (λ s. string_bytes s) file after) }
 {
-    let Some(file) = file else {
-        return Err(Fault::Usage);
-    };
+    let file = file.ok_or(Fault::Usage)?;
     if is_option(file.as_str()) || after.is_some() {
         return Err(Fault::Usage);
     }
@@ -42,9 +40,7 @@ fn call_of(
 ) -> Result<Call, Fault>
     ensures { MatchResult result (λ c. Called (λ s. string_bytes s) first second third c.work c.file) (λ e. (e ≡ faults.Usage) × Uncalled (λ s. string_bytes s) first second third) }
 {
-    let Some(word) = first else {
-        return Err(Fault::Usage);
-    };
+    let word = first.ok_or(Fault::Usage)?;
     if word.as_str() == "--work" {
         return call_for(true, second, third);
     }
@@ -53,10 +49,7 @@ fn call_of(
 
 // The call that the program's arguments are.
 pub fn read_call(rt: &HostRuntime) -> Result<Call, Fault> {
-    let mut args = match env::args(rt) {
-        Ok(args) => args,
-        Err(e) => return Err(Fault::Arguments(e)),
-    };
+    let mut args = env::args(rt).map_err(Fault::Arguments)?;
     let _program = args.next();
     let first = args.next();
     let second = args.next();

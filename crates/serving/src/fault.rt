@@ -28,7 +28,7 @@ impl<T: Drop> From<AllocFailed<T>> for Fault {
     }
 }
 
-// Says on standard error what went wrong, with the file of that name.
+// Says on standard error what went wrong, with the file of that name. Most lines name the file, which no fault holds: so a Display would not be enough.
 pub fn tell(rt: &HostRuntime, file: &str, fault: Fault) -> io::Result<()> {
     match fault {
         Fault::Usage => eprintln!(rt; "usage: vozketil [--work] FILE"),

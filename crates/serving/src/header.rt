@@ -12,7 +12,7 @@ pub struct Header {
     pub numbers: usize,
 }
 
-// The header that stands in front of the bytes.
+// The header that stands in front of the bytes. The numbers are read by the format's own reader, which says them in the words of the format.
 pub fn read_header(bytes: &[u8]) -> Header
     requires { 8 ≤ length bytes.now }
     ensures { HeaderOf bytes.now result }

@@ -13,7 +13,7 @@ use std::{fs, io};
 // How many bytes are read at a time, as long as no request is larger.
 const ROOM: usize = 1048576;
 
-// buffer[from..to] is the request now looked at, and buffer[to..end] is read and not yet looked at.
+// buffer[from..to] is the request now looked at, and buffer[to..end] is read and not yet looked at: as two ranges the place between them would stand twice.
 #[derive(Drop)]
 pub struct Requests {
     file: File,
@@ -37,21 +37,19 @@ impl Requests {
     {
         let mut buffer = Vec::new(heap);
         buffer.resize(ROOM, 0)?;
-        match fs::open(rt, name) {
-            Ok(file) => Ok(Requests {
-                file,
-                buffer,
-                from: 0,
-                to: 0,
-                end: 0,
-                header: Header {
-                    count: 0,
-                    numbers: 0,
-                },
-                total: 0,
-            }),
-            Err(e) => Err(Fault::CannotOpen(e)),
-        }
+        let file = fs::open(rt, name).map_err(Fault::CannotOpen)?;
+        Ok(Requests {
+            file,
+            buffer,
+            from: 0,
+            to: 0,
+            end: 0,
+            header: Header {
+                count: 0,
+                numbers: 0,
+            },
+            total: 0,
+        })
     }
 
     // The bytes of the request.
@@ -146,12 +144,8 @@ impl Requests {
                 self.total = self.total.saturating_add(count as u64);
                 Ok(count > 0)
             }
-            Err(e) => {
-                if e.kind() == ErrorKind::Interrupted {
-                    return Ok(true);
-                }
-                Err(Fault::CannotRead(e))
-            }
+            Err(e) if e.kind() == ErrorKind::Interrupted => Ok(true),
+            Err(e) => Err(Fault::CannotRead(e)),
         }
     }
 }

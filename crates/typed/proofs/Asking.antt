@@ -1,5 +1,5 @@
 -- A request's query: its names gathered, its schema's types read, its type told.
-use Rattle.std.proofs.Common.{◌≡◌, ℕ, zero, suc, ◌+◌, ◌*◌, ◌<◌, ◌≤◌, true, List, [], ◌∷◌, ◌++◌, length, get_or, drop, Some, None, vec_items, vec_len, vec_capacity, Option, sym, ap, ◌∙◌, subst, arith}
+use Rattle.std.proofs.Common.{◌≡◌, ℕ, zero, suc, ◌+◌, ◌*◌, ◌<◌, ◌≤◌, true, List, [], ◌∷◌, ◌++◌, length, get_or, drop, Some, None, vec_items, vec_len, Option, sym, ap, ◌∙◌, subst, arith}
 use mathlib.Core.Bool.{false≢true}
 use Rattle.std.proofs.lemmas.List.{append_assoc, append-nil, drop_more, drop_all}
 use Rattle.query.specs.Data.{Name}
@@ -16,7 +16,7 @@ use Rattle.ranks.proofs.Listings.{names_length}
 use Rattle.types.specs.Shapes.{s_unit, shapes, built, meaning, type_at, Below}
 use Rattle.types.specs.Tables.{Sound, Lies}
 use Rattle.types.specs.Operators.{types_of}
-use Rattle.types.specs.Outcomes.{look, size, spread, Tidy, Room, told, Grew}
+use Rattle.types.specs.Outcomes.{look, size, spread, Room, told, Grew}
 use Rattle.types.specs.declared.table.Table.{Table}
 use Rattle.types.specs.declared.entry.Entry.{Entry}
 use Rattle.types.specs.declared.entry.Entry.TheVariants.{Unit as Unit'}
@@ -29,9 +29,9 @@ use Rattle.typing.proofs.Bounds.{Enough, enough, schema_few}
 use Rattle.typed.specs.Walks.{setting, Asked, Walked}
 
 -- a table with the type of nothing alone
-begun_sound : (w : ℕ) → Sound w (Unit' ∷ []) []
+unit_sound : (w : ℕ) → Sound w (Unit' ∷ []) []
 unfolding shapes Below
-begun_sound w = record { lies = lie; good = record { parts = part; once = λ i j h l e. omega arith } }
+unit_sound w = record { lies = lie; good = record { parts = part; once = λ i j h l e. omega arith } }
   where
     lie : (i : ℕ) → i < 1 → Lies 0 (get_or (Unit' ∷ []) i Unit')
     lie zero h = tt
@@ -41,12 +41,8 @@ begun_sound w = record { lies = lie; good = record { parts = part; once = λ i j
     part zero h = tt
     part (suc i) h = absurd (omega arith)
 
-pub begun : (t : Table) → vec_items t.entries ≡ Unit' ∷ [] → vec_items t.fields ≡ [] → 16400 ≤ vec_capacity t.entries → 16793600 ≤ vec_capacity t.fields → Tidy t
-begun t e f h k = record {
-  sound = subst (λ (z : List Field). Sound t.names (vec_items t.entries) z) (sym f) (subst (λ (z : List Entry). Sound t.names z []) (sym e) (begun_sound t.names));
-  entries = h;
-  fields = k;
-}
+pub begun_sound : (w : ℕ) (es : List Entry) (fs : List Field) → es ≡ Unit' ∷ [] → fs ≡ [] → Sound w es fs
+begun_sound w es fs e f = subst (λ (z : List Field). Sound w es z) (sym f) (subst (λ (z : List Entry). Sound w z []) (sym e) (unit_sound w))
 
 begun_unit : (ns : List Name) (t : Table) → vec_items t.entries ≡ Unit' ∷ [] → type_at ns (look t) 0 ≡ a_unit
 unfolding shapes built meaning
@@ -56,13 +52,13 @@ begun_unit ns t e = ap (λ (z : List Entry). type_at ns (shapes (vec_items t.fie
 pub counted : (xs : List ℕ) (v : Names) (k n : ℕ) → k ≡ n → n ≡ vec_len v.places → k ≡ length (names_of xs v)
 counted xs v k n e f = let l = names_length xs (vec_items v.places) in omega arith
 
--- copying from a place on
-pub copied_on : (xs ys zs : List ℕ) (top i : ℕ) → i < length xs → ys ++ drop i xs ≡ drop top xs → zs ≡ ys ++ (get_or xs i 0 ∷ []) → zs ++ drop (i + 1) xs ≡ drop top xs
-copied_on xs ys zs top i h e f =
+-- copying
+pub copied_on : (xs ys zs : List ℕ) (i : ℕ) → i < length xs → ys ++ drop i xs ≡ xs → zs ≡ ys ++ (get_or xs i 0 ∷ []) → zs ++ drop (i + 1) xs ≡ xs
+copied_on xs ys zs i h e f =
     ap (λ (z : List ℕ). z ++ drop (i + 1) xs) f ∙ (append_assoc ys (get_or xs i 0 ∷ []) (drop (i + 1) xs) ∙ (ap (λ (z : List ℕ). ys ++ z) (sym (drop_more xs i 0 h)) ∙ e))
 
-pub copied_end : (xs ys : List ℕ) (top i : ℕ) → length xs ≤ i → ys ++ drop i xs ≡ drop top xs → ys ≡ drop top xs
-copied_end xs ys top i h e = sym (ap (λ (z : List ℕ). ys ++ z) (drop_all i xs h) ∙ append-nil ys) ∙ e
+pub copied_end : (xs ys : List ℕ) (i : ℕ) → length xs ≤ i → ys ++ drop i xs ≡ xs → ys ≡ xs
+copied_end xs ys i h e = sym (ap (λ (z : List ℕ). ys ++ z) (drop_all i xs h) ∙ append-nil ys) ∙ e
 
 module _ (xs g : List ℕ) (v : Names) (t u : Table) (w : Work) (at count to : ℕ) (n : Gathered xs v at count to) (te : vec_items t.entries ≡ Unit' ∷ []) (tf : vec_items t.fields ≡ []) (tn : t.names ≡ length (names_of xs v)) where
   module _ (ss : Schema) (q : Query) (s : SchemaAt xs at count ss) (k : QueryAt xs to q) (l : size_s ss + size_q q ≤ 8192) where
@@ -72,7 +68,7 @@ module _ (xs g : List ℕ) (v : Names) (t u : Table) (w : Work) (at count to : �
     known : KnowsAll (names_of xs v) ss × Knows (names_of xs v) q
     known = n.known ss q s.stands.rest k.stands.rest s.fits.1 s.fits.0 s.stands.within s.stands.is k.fits k.stands.within k.stands.is room_for.names
 
-    read : (r : Option ℕ) → Loaded xs v t u w at count r → LoadTold (names_of xs v) t u w ss r
+    read : (r : Option (Unit {0})) → Loaded xs v t u w at count r → LoadTold (names_of xs v) t u w ss r
     read r d =
         let a = ap (λ (z : List Entry). length z) te in
         let b = ap (λ (z : List Field). length z) tf in
@@ -83,12 +79,12 @@ module _ (xs g : List ℕ) (v : Names) (t u : Table) (w : Work) (at count to : �
   pub schema_unsound : Loaded xs v t u w at count None → (ss : Schema) (q : Query) → SchemaAt xs at count ss → QueryAt xs to q → size_s ss + size_q q ≤ 8192 → all_sound ss ≡ true → ⊥
   schema_unsound d ss q s k l o = false≢true (sym (read ss q s k l None d).says ∙ o)
 
-  pub query_told : (top : ℕ) (sch : List ℕ) (z : Table) (r : Option ℕ) → Loaded xs v t u w at count (Some top) → sch ≡ drop top (vec_items w.stack) → Walked (setting xs v sch g to) u z 0 0 0 4096 r
+  pub query_told : (sch : List ℕ) (z : Table) (r : Option ℕ) → Loaded xs v t u w at count (Some tt) → sch ≡ w.stack → Walked (setting xs v sch g to) u z 0 0 0 4096 r
       → (ss : Schema) (q : Query) → SchemaAt xs at count ss → QueryAt xs to q → Guided g 0 q → size_s ss + size_q q ≤ 8192 → type_asked ss q ≡ told (names_of xs v) (look z) r
-  query_told top sch z r d c m ss q s k gd l =
+  query_told sch z r d c m ss q s k gd l =
       let ns = names_of xs v in
       let e = room_for ss q s k l in
-      let f = read ss q s k l (Some top) d in
+      let f = read ss q s k l (Some tt) d in
       let p : to + 0 ≡ to = omega arith in
       let i = ap (λ (y : List Entry). length y) te in
       let j = ap (λ (y : List Field). length y) tf in

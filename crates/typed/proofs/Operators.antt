@@ -81,7 +81,7 @@ module _ (S : Setting) (t : Table) (pos x : ℕ) (o : Single) where
         as_side _ j.1 (meant_as (bind_none 1 0 n (λ z. an_either z (type_at (names_in S) (look t) x) ∷ [])) _ (so_with (sound j.0) j.0 (λ z. an_either z (type_at (names_in S) (look t) x)))) (omega arith)
 
     module _ (v : Table) (y : ℕ) (r : Option ℕ) (h : x < size t) (g : Grew t u (Some y)) (m : TypeTold S.bytes S.names t u (S.base + pos + 1) (Some y)) (rk : Ranked (names_in S) u.names) where
-      pub left_some : o ≡ sg.Left → Says u v 1 0 r (λ ns. meaning ns (types ns (look u)) (shape (vec_items u.fields) (Either x y)) ∷ []) → SingleTold S t v pos o x r
+      pub left_some : o ≡ sg.Left → Says u v 1 0 r (λ ns. meaning ns (types ns (look u)) (shape (vec_items u.fields) (Either (record { left = x; right = y }))) ∷ []) → SingleTold S t v pos o x r
       unfolding size_q Knows FitsQuery meaning
       left_some e d k p depth i a =
           let ns = names_in S in
@@ -91,7 +91,7 @@ module _ (S : Setting) (t : Table) (pos x : ℕ) (o : Single) where
           let f : Meant ns u v 1 0 r (an_either (type_at ns (look t) x) (type_at ns (look u) y) ∷ []) = meant_as (d ns rk) _ (ap (λ (z : Ty). an_either z (type_at ns (look u) y) ∷ []) (sym (kept_at g x h ns))) in
           as_side _ j.1 (meant_as (bind_some n (λ z. an_either (type_at ns (look t) x) z ∷ []) f) _ (so_with (sound j.0) j.0 (λ z. an_either (type_at ns (look t) x) z))) (omega arith)
 
-      pub right_some : o ≡ sg.Right → Says u v 1 0 r (λ ns. meaning ns (types ns (look u)) (shape (vec_items u.fields) (Either y x)) ∷ []) → SingleTold S t v pos o x r
+      pub right_some : o ≡ sg.Right → Says u v 1 0 r (λ ns. meaning ns (types ns (look u)) (shape (vec_items u.fields) (Either (record { left = y; right = x }))) ∷ []) → SingleTold S t v pos o x r
       unfolding size_q Knows FitsQuery meaning
       right_some e d k p depth i a =
           let ns = names_in S in

@@ -1,14 +1,11 @@
 -- A step of the walk.
-use Rattle.std.proofs.Common.{◌≡◌, ℕ, ◌+◌, ◌-◌, ◌≤◌, length, Some, None, ap, ◌∙◌, arith}
+use Rattle.std.proofs.Common.{◌≡◌, ℕ, ◌+◌, ◌-◌, ◌≤◌, length, Some, ap, ◌∙◌, arith}
 use Rattle.typing.specs.Visits.{SeenAt}
 use Rattle.typing.specs.declared.visit.Seen.{Seen}
 use Rattle.typed.specs.Shaped.{TellsShape}
 use Rattle.typed.specs.Walks.{Setting, Stepped}
 use Rattle.typed.specs.declared.shape.Shape.{Shape}
 use Rattle.typed.proofs.Parts.{first_within, last_within, in_bytes}
-
-pub no_step : (S : Setting) (pos : ℕ) → SeenAt S.bytes S.guide S.base pos None → Stepped S pos None
-no_step S pos v = record { within = tt; steps = λ q depth a. v.sees q a.rest a.fits a.within a.stands a.guided }
 
 pub step_is : (S : Setting) (pos : ℕ) (v : Seen) (h : Shape) (f l : ℕ) → SeenAt S.bytes S.guide S.base pos (Some v) → TellsShape v.node h
     → (v.first ≤ length S.bytes - (S.base + pos) → f ≡ pos + v.first) → f ≤ pos + (length S.bytes - (S.base + pos))

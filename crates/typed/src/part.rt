@@ -4,7 +4,7 @@ ghost use Rattle.query.specs.Data.{Name};
 ghost use Rattle.query.specs.Types.{if_so, same_ty, ty_at};
 ghost use Rattle.ranks.specs.Ranks.{names_of, Listed};
 ghost use Rattle.types.specs.Shapes.{Shape, type_at};
-ghost use Rattle.types.specs.Outcomes.{look, size, Tidy, told, Within, Grew, Says};
+ghost use Rattle.types.specs.Outcomes.{look, size, told, Within, Grew, Says};
 ghost use Rattle.types.specs.Operators.{NamesOf, types_of};
 ghost use Rattle.typing.specs.Loads.{Fit};
 ghost use Rattle.typed.specs.Shaped.{over_type};
@@ -12,10 +12,7 @@ ghost use Rattle.typed.specs.Walks.{scene, Ready, LeafTold, SingleTold, JointTol
 
 use crate::scene::Lent;
 use crate::shape::{Joint, Leaf, Over, Single};
-use types::apply::{in_bag, join_bags, two};
-use types::entry::Entry;
-use types::pairs::product;
-use types::part::{is_truth, make};
+use types::entry::{Entry, Two};
 use types::table::Table;
 use typing::parts::{matched_at, one_type, unary, written};
 use typing::work::Work;
@@ -87,16 +84,12 @@ pub fn single_type(
     match op {
         Single::Op(o) => unary(lent.bytes, lent.names, table, &mut work.ranks, at, o, x),
         Single::Left => {
-            let Some(y) = one_type(lent.bytes, lent.names, table, work, at + 1) else {
-                return None;
-            };
-            make(table, Entry::Either(x, y))
+            let y = one_type(lent.bytes, lent.names, table, work, at + 1)?;
+            table.make(Entry::Either(Two { left: x, right: y }))
         }
         Single::Right => {
-            let Some(y) = one_type(lent.bytes, lent.names, table, work, at + 1) else {
-                return None;
-            };
-            make(table, Entry::Either(y, x))
+            let y = one_type(lent.bytes, lent.names, table, work, at + 1)?;
+            table.make(Entry::Either(Two { left: y, right: x }))
         }
     }
 }
@@ -111,7 +104,6 @@ pub fn joint_type(
     y: u32,
 ) -> Option<u32>
     requires listed { Listed lent.now.bytes.now lent.now.names.now }
-    requires tidy { Tidy table.old }
     requires same { table.old.names ≡ length (names_of lent.now.bytes.now lent.now.names.now) }
     requires here { lent.now.base + pos < length lent.now.bytes.now }
     requires first { x < size table.old }
@@ -120,8 +112,8 @@ pub fn joint_type(
     ensures told { JointTold (scene lent.now) table.old table.new pos op x y result }
 {
     match op {
-        Joint::Op(o) => two(table, o, x, y),
-        Joint::Product => product(table, x, y),
+        Joint::Op(o) => table.two(o, x, y),
+        Joint::Product => table.product(x, y),
         Joint::Matched(m, n) => matched_at(
             lent.bytes,
             lent.names,
@@ -132,27 +124,25 @@ pub fn joint_type(
             x,
             y,
         ),
-        Joint::Default => join_bags(table, x, y),
+        Joint::Default => table.join_bags(x, y),
     }
 }
 
 // The type of each or of keep, by that of the bag and that of what the first part comes to for one of its things.
 pub fn over_type(table: &mut Table, op: Over, x: u32, v: u32) -> Option<u32>
-    requires tidy { Tidy table.old }
     requires bag { x < size table.old }
     requires thing { v < size table.old }
     ensures grew { Grew table.old table.new result }
     ensures says { Says table.old table.new 1 0 result (λ ns. over_type op (type_at ns (look table.old) x) (type_at ns (look table.old) v)) }
 {
     match op {
-        Over::Each => in_bag(table, v),
-        Over::Keep => { if is_truth(table, v) { Some(x) } else { None } }
+        Over::Each => table.in_bag(v),
+        Over::Keep => { if table.is_truth(v) { Some(x) } else { None } }
     }
 }
 
 // The one type of two, if they are one.
 pub fn same_type(table: &Table, x: u32, y: u32) -> Option<u32>
-    requires tidy { Tidy table.now }
     requires first { x < size table.now }
     requires second { y < size table.now }
     ensures grew { Grew table.now table.now result }

@@ -26,9 +26,7 @@ fn further(pos: usize, by: usize, room: usize) -> usize
 pub fn step_at(lent: &Lent, pos: usize) -> Option<Step>
     ensures { Stepped (scene lent.now) pos result }
 {
-    let Some(seen) = visit_at(lent.bytes, lent.guide, lent.base, pos) else {
-        return None;
-    };
+    let seen = visit_at(lent.bytes, lent.guide, lent.base, pos)?;
     let room = lent.bytes.len() - (lent.base + pos);
     Some(Step {
         shape: shape_of(seen.node),

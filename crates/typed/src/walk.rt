@@ -8,7 +8,6 @@ use crate::part::{joint_type, leaf_type, over_type, same_type, single_type};
 use crate::scene::Lent;
 use crate::shape::Shape;
 use crate::step::step_at;
-use types::part::{elem_of, sides_of};
 use types::table::Table;
 use typing::work::Work;
 
@@ -33,60 +32,36 @@ pub fn type_of(
     if depth == 0 {
         return None;
     }
-    let Some(step) = step_at(lent, pos) else {
-        return None;
-    };
+    let step = step_at(lent, pos)?;
     match step.shape {
         Shape::Leaf(leaf) => leaf_type(lent, table, work, pos, step.last, leaf, env, it),
         Shape::Single(op) => {
-            let Some(x) = type_of(lent, table, work, step.last, env, it, depth - 1) else {
-                return None;
-            };
+            let x = type_of(lent, table, work, step.last, env, it, depth - 1)?;
             single_type(lent, table, work, pos, op, x)
         }
         Shape::Pair(op) => {
-            let Some(x) = type_of(lent, table, work, step.first, env, it, depth - 1) else {
-                return None;
-            };
-            let Some(y) = type_of(lent, table, work, step.last, env, it, depth - 1) else {
-                return None;
-            };
+            let x = type_of(lent, table, work, step.first, env, it, depth - 1)?;
+            let y = type_of(lent, table, work, step.last, env, it, depth - 1)?;
             joint_type(lent, table, pos, op, x, y)
         }
         Shape::Over(op) => {
-            let Some(x) = type_of(lent, table, work, step.last, env, it, depth - 1) else {
-                return None;
-            };
-            let Some(u) = elem_of(table, x) else {
-                return None;
-            };
-            let Some(v) = type_of(lent, table, work, step.first, env, u, depth - 1) else {
-                return None;
-            };
+            let x = type_of(lent, table, work, step.last, env, it, depth - 1)?;
+            let u = table.elem_of(x)?;
+            let v = type_of(lent, table, work, step.first, env, u, depth - 1)?;
             over_type(table, op, x, v)
         }
         Shape::Then => {
-            let Some(x) = type_of(lent, table, work, step.last, env, it, depth - 1) else {
-                return None;
-            };
+            let x = type_of(lent, table, work, step.last, env, it, depth - 1)?;
             type_of(lent, table, work, step.first, env, x, depth - 1)
         }
         Shape::WithEnv => {
-            let Some(x) = type_of(lent, table, work, step.last, env, it, depth - 1) else {
-                return None;
-            };
+            let x = type_of(lent, table, work, step.last, env, it, depth - 1)?;
             type_of(lent, table, work, step.first, x, it, depth - 1)
         }
         Shape::Either => {
-            let Some(sides) = sides_of(table, it) else {
-                return None;
-            };
-            let Some(x) = type_of(lent, table, work, step.first, env, sides.left, depth - 1) else {
-                return None;
-            };
-            let Some(y) = type_of(lent, table, work, step.last, env, sides.right, depth - 1) else {
-                return None;
-            };
+            let sides = table.sides_of(it)?;
+            let x = type_of(lent, table, work, step.first, env, sides.left, depth - 1)?;
+            let y = type_of(lent, table, work, step.last, env, sides.right, depth - 1)?;
             same_type(table, x, y)
         }
     }

@@ -1,5 +1,5 @@
 // The type of a request's query, in memory of the desk's own.
-ghost use Rattle.std.specs.Prelude.{◌≡◌, ℕ, ◌≤◌, List, [], ◌∷◌, length, drop, vec_capacity};
+ghost use Rattle.std.specs.Prelude.{◌≡◌, ◌≤◌, [], ◌∷◌, length, drop, vec_capacity};
 ghost use Rattle.types.specs.Outcomes.{Tidy};
 ghost use Rattle.typing.specs.Room.{Spacious};
 ghost use Rattle.typed.specs.Told.{QueryTyped};
@@ -14,8 +14,6 @@ use typing::memory::Memory;
 
 // Begins the table anew, with the type of nothing alone, which has number 0. No more is cleared than was made before.
 fn begin(table: &mut Table, names: usize)
-    requires entries { 16400 ≤ vec_capacity table.old.entries }
-    requires fields { 16793600 ≤ vec_capacity table.old.fields }
     ensures tidy { Tidy table.new }
     ensures names { table.new.names ≡ names }
     ensures entries { table.new.entries.items ≡ Entry.Unit ∷ [] }
@@ -27,16 +25,16 @@ fn begin(table: &mut Table, names: usize)
     table.fields.truncate(0);
 }
 
-// Copies what stands on a stack from a place on.
-fn copy(stack: &[u32], top: usize, to: &mut Vec<u32>)
-    requires few { length stack.now ≤ 8200 }
+// Copies numbers.
+fn copy(numbers: &[u32], to: &mut Vec<u32>)
+    requires few { length numbers.now ≤ 8200 }
     requires cap { 8200 ≤ vec_capacity to.old }
     ensures cap { 8200 ≤ vec_capacity to.new }
-    ensures is { to.new.items ≡ drop top stack.now }
+    ensures is { to.new.items ≡ numbers.now }
 {
-    to.truncate(0);
-    for i in top..stack.len() {
-        to.push_reserved(stack[i]);
+    to.clear();
+    for x in numbers {
+        to.push_reserved(*x);
     }
 }
 
@@ -58,17 +56,15 @@ pub fn query_type(
     if schema_at > bytes.len() {
         return None;
     }
-    let Some(top) = load(
+    load(
         bytes,
         &memory.names,
         &mut memory.table,
         &mut memory.work,
         schema_at,
         types,
-    ) else {
-        return None;
-    };
-    copy(&memory.work.stack, top, &mut memory.schema);
+    )?;
+    copy(memory.work.stack.numbers(), &mut memory.schema);
     let lent = Lent {
         bytes,
         names: &memory.names,

@@ -1,9 +1,11 @@
 -- Two records in one. Assumes nothing.
-use Rattle.std.proofs.Common.{◌≡◌, ℕ, zero, suc, ◌+◌, ◌<◌, ◌≤◌, Bool, true, false, eqb, ltb, ◌⊎◌, List, [], ◌∷◌, length, drop, sym, refl, ap, ◌∙◌, subst, ap₂, inl, inr, arith}
+use Rattle.std.proofs.Common.{◌≡◌, ℕ, zero, suc, ◌+◌, ◌<◌, ◌≤◌, Bool, true, false, eqb, ltb, ◌⊎◌, List, [], ◌∷◌, length, drop, Some, None, Option, sym, refl, ap, ◌∙◌, subst, ap₂, inl, inr, arith}
 use Rattle.query.specs.Data.{pick}
-use Rattle.types.specs.Shapes.{Rising}
-use Rattle.types.specs.Fields.{put_f, both_f, Stepped}
+use Rattle.types.specs.Shapes.{held, Rising}
+use Rattle.types.specs.Fields.{put_f, both_f, Stepped, FirstOf}
 use Rattle.types.specs.declared.entry.Field.{Field}
+use Rattle.types.specs.declared.entry.Next.{Next}
+use Rattle.types.specs.declared.entry.Run.{Run}
 
 pub eqb_no : (a b : ℕ) → (a ≡ b → ⊥) → eqb a b ≡ false
 eqb_no a b h = grind arith
@@ -20,11 +22,11 @@ ltb_yes a b h = grind arith
 pub pick_true : {A : Type 0} (b : Bool) (x y : A) → b ≡ true → pick b x y ≡ x
 unfolding pick
 pick_true true x y h = refl
-pick_true false x y h = let z : ◌≡◌ {A = ℕ} 0 1 = cc in absurd (omega arith)
+pick_true false x y h = absurd cc
 
 pub pick_false : {A : Type 0} (b : Bool) (x y : A) → b ≡ false → pick b x y ≡ y
 unfolding pick
-pick_false true x y h = let z : ◌≡◌ {A = ℕ} 0 1 = cc in absurd (omega arith)
+pick_false true x y h = absurd cc
 pick_false false x y h = refl
 
 pub rising_low : (w k p q : ℕ) (fs : List Field) → p ≤ q → Rising w k q fs → Rising w k p fs
@@ -113,24 +115,47 @@ stepped_low w k x xs ys e r = record { is = ap (λ (z : List Field). both_f z ys
 stepped_high : (w k : ℕ) (y : Field) (xs ys : List Field) → ys ≡ y ∷ drop 1 ys → Rising w k (suc y.name) xs → Rising w k 0 ys → Stepped xs ys (record { field = y; first = 0; second = 1 })
 stepped_high w k y xs ys e r s = record { is = ap (λ (z : List Field). both_f xs z) e ∙ both_high w k y xs (drop 1 ys) r (rising_tail w k y ys (drop 1 ys) e s); first = omega arith; second = long y ys (drop 1 ys) e; some = omega arith }
 
-pub stepped_first : (w k : ℕ) (x : Field) (xs ys : List Field) → xs ≡ x ∷ drop 1 xs → ys ≡ [] → Stepped xs ys (record { field = x; first = 1; second = 0 })
+stepped_first : (w k : ℕ) (x : Field) (xs ys : List Field) → xs ≡ x ∷ drop 1 xs → ys ≡ [] → Stepped xs ys (record { field = x; first = 1; second = 0 })
 unfolding Rising
 stepped_first w k x xs ys e q = stepped_low w k x xs ys e (subst (λ z. Rising w k (suc x.name) z) (sym q) tt)
 
-pub stepped_second : (w k : ℕ) (y : Field) (xs ys : List Field) → ys ≡ y ∷ drop 1 ys → xs ≡ [] → Rising w k 0 ys → Stepped xs ys (record { field = y; first = 0; second = 1 })
+stepped_second : (w k : ℕ) (y : Field) (xs ys : List Field) → ys ≡ y ∷ drop 1 ys → xs ≡ [] → Rising w k 0 ys → Stepped xs ys (record { field = y; first = 0; second = 1 })
 unfolding Rising
 stepped_second w k y xs ys e q s = stepped_high w k y xs ys e (subst (λ z. Rising w k (suc y.name) z) (sym q) tt) s
 
-pub stepped_less : (w k : ℕ) (x y : Field) (xs ys : List Field) → xs ≡ x ∷ drop 1 xs → ys ≡ y ∷ drop 1 ys → x.name < y.name → Rising w k 0 ys → Stepped xs ys (record { field = x; first = 1; second = 0 })
+stepped_less : (w k : ℕ) (x y : Field) (xs ys : List Field) → xs ≡ x ∷ drop 1 xs → ys ≡ y ∷ drop 1 ys → x.name < y.name → Rising w k 0 ys → Stepped xs ys (record { field = x; first = 1; second = 0 })
 stepped_less w k x y xs ys e q l s = stepped_low w k x xs ys e (rising_head w k (suc x.name) y ys (drop 1 ys) q l s)
 
-pub stepped_more : (w k : ℕ) (x y : Field) (xs ys : List Field) → xs ≡ x ∷ drop 1 xs → ys ≡ y ∷ drop 1 ys → y.name < x.name → Rising w k 0 xs → Rising w k 0 ys → Stepped xs ys (record { field = y; first = 0; second = 1 })
+stepped_more : (w k : ℕ) (x y : Field) (xs ys : List Field) → xs ≡ x ∷ drop 1 xs → ys ≡ y ∷ drop 1 ys → y.name < x.name → Rising w k 0 xs → Rising w k 0 ys → Stepped xs ys (record { field = y; first = 0; second = 1 })
 stepped_more w k x y xs ys e q l r s = stepped_high w k y xs ys q (rising_head w k (suc y.name) x xs (drop 1 xs) e l r) s
 
-pub stepped_same : (w k : ℕ) (x y : Field) (xs ys : List Field) → xs ≡ x ∷ drop 1 xs → ys ≡ y ∷ drop 1 ys → x.name ≡ y.name → Rising w k 0 ys → Stepped xs ys (record { field = y; first = 1; second = 1 })
+stepped_same : (w k : ℕ) (x y : Field) (xs ys : List Field) → xs ≡ x ∷ drop 1 xs → ys ≡ y ∷ drop 1 ys → x.name ≡ y.name → Rising w k 0 ys → Stepped xs ys (record { field = y; first = 1; second = 1 })
 stepped_same w k x y xs ys e q l s = record {
   is = ap₂ (λ (z v : List Field). both_f z v) e q ∙ both_same w k x y (drop 1 xs) (drop 1 ys) (sym l) (rising_tail w k y ys (drop 1 ys) q s);
   first = long x xs (drop 1 xs) e;
   second = long y ys (drop 1 ys) q;
   some = omega arith;
 }
+
+-- the next of two runs of fields, as it was found
+module _ (w k : ℕ) (xs ys : List Field) (rx : Rising w k 0 xs) (ry : Rising w k 0 ys) (r : Next) where
+  from_these : (s : Next) → r ≡ s → Stepped xs ys s → Stepped xs ys r
+  from_these s q t = subst (λ (z : Next). Stepped xs ys z) (sym q) t
+
+  pub next_first : (x : Field) → FirstOf xs (Some x) → FirstOf ys None → r ≡ record { field = x; first = 1; second = 0 } → Stepped xs ys r
+  next_first x a b q = from_these _ q (stepped_first w k x xs ys a b)
+
+  pub next_second : (y : Field) → FirstOf xs None → FirstOf ys (Some y) → r ≡ record { field = y; first = 0; second = 1 } → Stepped xs ys r
+  next_second y a b q = from_these _ q (stepped_second w k y xs ys b a ry)
+
+  pub next_less : (x y : Field) → FirstOf xs (Some x) → FirstOf ys (Some y) → x.name < y.name → r ≡ record { field = x; first = 1; second = 0 } → Stepped xs ys r
+  next_less x y a b l q = from_these _ q (stepped_less w k x y xs ys a b l ry)
+
+  pub next_more : (x y : Field) → FirstOf xs (Some x) → FirstOf ys (Some y) → y.name < x.name → r ≡ record { field = y; first = 0; second = 1 } → Stepped xs ys r
+  next_more x y a b l q = from_these _ q (stepped_more w k x y xs ys a b l rx ry)
+
+  pub next_same : (x y : Field) → FirstOf xs (Some x) → FirstOf ys (Some y) → x.name ≡ y.name → r ≡ record { field = y; first = 1; second = 1 } → Stepped xs ys r
+  next_same x y a b l q = from_these _ q (stepped_same w k x y xs ys a b l ry)
+
+pub first_as : (p : Run) (us fs : List Field) (r s : Option Field) → us ≡ fs → r ≡ s → FirstOf (held us p) r → FirstOf (held fs p) s
+first_as p us fs r s e f h = subst (λ (z : List Field). FirstOf (held z p) s) e (subst (λ (z : Option Field). FirstOf (held us p) z) f h)

@@ -1,26 +1,37 @@
 -- The fields of a record that stay.
-use Rattle.std.proofs.Common.{◌≡◌, ℕ, zero, suc, ◌+◌, ◌<◌, ◌≤◌, Bool, true, false, ◌||◌, List, [], ◌∷◌, ◌++◌, length, get_or, take, drop, sym, refl, ap, ◌∙◌, arith}
-use Rattle.std.proofs.lemmas.List.{length-append, append_assoc, append-nil, drop_more, drop_all}
+use Rattle.std.proofs.Common.{◌≡◌, ℕ, zero, suc, ◌+◌, ◌<◌, ◌≤◌, Bool, true, false, not, ◌||◌, nat_eq, List, [], ◌∷◌, ◌++◌, length, get_or, take, drop, sym, refl, ap, ◌∙◌, ap₂, arith}
+use Rattle.std.proofs.lemmas.List.{length-append, append_assoc, append-nil}
+use Rattle.std.specs.List.{list_any}
+use mathlib.Core.Bool.{beq}
 use Rattle.query.specs.Data.{pick}
 use Rattle.types.specs.Shapes.{Rising}
 use Rattle.types.specs.Tables.{no_such}
 use Rattle.types.specs.Fields.{in_f, as_told, kept_f}
 use Rattle.types.specs.declared.entry.Field.{Field}
 use Rattle.types.proofs.Runs.{run_step, run_end}
-use Rattle.types.proofs.Both.{pick_true, pick_false, rising_low, rising_length, eqb_yes, eqb_no}
+use Rattle.types.proofs.Both.{pick_true, pick_false, rising_low, rising_length}
 
--- a list looked through from the front
-pub in_on : (k : ℕ) (ks : List ℕ) (i : ℕ) → i < length ks → (get_or ks i 0 ≡ k → ⊥) → in_f k ks ≡ in_f k (drop i ks) → in_f k ks ≡ in_f k (drop (i + 1) ks)
+-- whether a number is in a list, as the library's word has it
+in_any : (k : ℕ) (ks : List ℕ) → list_any (λ y. nat_eq y k) ks ≡ in_f k ks
 unfolding in_f
-in_on k ks i h ne e = e ∙ (ap (λ (z : List ℕ). in_f k z) (drop_more ks i 0 h) ∙ ap (λ (b : Bool). b || in_f k (drop (i + 1) ks)) (eqb_no k (get_or ks i 0) (λ q. ne (sym q))))
+in_any k [] = refl
+in_any k (m ∷ ks) = ap₂ (λ (a b : Bool). a || b) (turned m k) (in_any k ks)
+  where
+    turned : (m k : ℕ) → nat_eq m k ≡ nat_eq k m
+    turned m k = grind arith
 
-pub in_here : (k : ℕ) (ks : List ℕ) (i : ℕ) → i < length ks → get_or ks i 0 ≡ k → in_f k ks ≡ in_f k (drop i ks) → true ≡ in_f k ks
-unfolding in_f
-in_here k ks i h q e = sym (e ∙ (ap (λ (z : List ℕ). in_f k z) (drop_more ks i 0 h) ∙ ap (λ (b : Bool). b || in_f k (drop (i + 1) ks)) (eqb_yes k (get_or ks i 0) (sym q))))
-
-pub in_none : (k : ℕ) (ks : List ℕ) (i : ℕ) → length ks ≤ i → in_f k ks ≡ in_f k (drop i ks) → false ≡ in_f k ks
-unfolding in_f
-in_none k ks i h e = sym (e ∙ ap (λ (z : List ℕ). in_f k z) (drop_all i ks h))
+pub stays_told : (k : ℕ) (ks : List ℕ) (r keep : Bool) → r ≡ list_any (λ y. nat_eq y k) ks → (b : Bool) → beq r keep ≡ b → as_told keep (in_f k ks) ≡ b
+unfolding as_told
+stays_told k ks r true e b q = sym (in_any k ks) ∙ (sym e ∙ (yes r ∙ q))
+  where
+    yes : (r : Bool) → r ≡ beq r true
+    yes true = refl
+    yes false = refl
+stays_told k ks r false e b q = ap not (sym (in_any k ks) ∙ sym e) ∙ (no r ∙ q)
+  where
+    no : (r : Bool) → not r ≡ beq r false
+    no true = refl
+    no false = refl
 
 -- what stays is in order still
 pub kept_rises : (w k p : ℕ) (ks : List ℕ) (b : Bool) (fs : List Field) → Rising w k p fs → Rising w k p (kept_f ks b fs)

@@ -1,8 +1,10 @@
 -- A table with one more shape, or none. Assumes nothing.
-use Rattle.std.proofs.Common.{◌≡◌, ℕ, zero, suc, ◌+◌, ◌-◌, ◌<◌, ◌≤◌, ◌⊎◌, List, [], ◌∷◌, ◌++◌, length, get_or, take, drop, Some, None, sym, refl, ap, ◌∙◌, subst, inl, inr, arith}
+use Rattle.std.proofs.Common.{◌≡◌, ℕ, zero, suc, ◌+◌, ◌-◌, ◌<◌, ◌≤◌, Bool, true, false, ◌⊎◌, List, [], ◌∷◌, ◌++◌, length, get_or, take, drop, Some, None, sym, refl, ap, ◌∙◌, subst, inl, inr, arith}
 use Rattle.std.proofs.lemmas.List.{length-append, length-drop, length-take-le, get_or_append_left, get_or_at, append-nil, ext_get_or, take_all, take-take, drop-take}
-use Rattle.types.specs.Shapes.{Shape, s_unit, s_rec, shape, shapes, Rising, Below, Good, Grown}
-use Rattle.types.specs.Tables.{Lies, Sound, Made, Found}
+use Rattle.std.specs.Bool.{Decides}
+use Rattle.types.specs.Shapes.{Shape, s_unit, s_rec, shape, held, shapes, Rising, Below, Good, Grown}
+use Rattle.types.specs.Tables.{Lies, Sound, Made, Found, Tells}
+use Rattle.types.specs.declared.entry.Run.{Run}
 use Rattle.types.specs.declared.entry.Field.{Field}
 use Rattle.types.specs.declared.entry.Entry.{Entry}
 use Rattle.types.specs.declared.entry.Entry.TheVariants.{Unit as Unit', Num, Truth, Text, Bag, Either, Record}
@@ -34,8 +36,8 @@ shape_front fs n Num l = refl
 shape_front fs n Truth l = refl
 shape_front fs n Text l = refl
 shape_front fs n (Bag j) l = refl
-shape_front fs n (Either j k) l = refl
-shape_front fs n (Record s k) l = ap s_rec (front fs n s k l)
+shape_front fs n (Either p) l = refl
+shape_front fs n (Record p) l = ap s_rec (front fs n p.start p.count l)
 
 pub lies_more : (m n : ℕ) (e : Entry) → m ≤ n → Lies m e → Lies n e
 lies_more m n Unit' h l = tt
@@ -43,8 +45,8 @@ lies_more m n Num h l = tt
 lies_more m n Truth h l = tt
 lies_more m n Text h l = tt
 lies_more m n (Bag j) h l = tt
-lies_more m n (Either j k) h l = tt
-lies_more m n (Record s k) h l = omega arith
+lies_more m n (Either p) h l = tt
+lies_more m n (Record p) h l = omega arith
 
 pub shapes_front : (fs : List Field) (n : ℕ) (es : List Entry) → ((i : ℕ) → i < length es → Lies n (get_or es i Unit')) → shapes (take n fs) es ≡ shapes fs es
 shapes_front fs n es h =
@@ -126,7 +128,7 @@ wide_same w es fs n h s = shapes_front fs n es (λ i k. subst (λ z. Lies z (get
 whole : (fs : List Field) (n : ℕ) → n ≤ length fs → take (length fs - n) (drop n fs) ≡ drop n fs
 whole fs n h = take_all (length fs - n) (drop n fs) (omega (arith, length-drop n fs))
 
-pub sealed_old : (w : ℕ) (es : List Entry) (fs gs : List Field) (n i : ℕ) → n ≤ length fs → Sound w es (take n fs) → gs ≡ take n fs → Found fs es (Record n (length fs - n)) (Some i)
+pub sealed_old : (w : ℕ) (es : List Entry) (fs gs : List Field) (n i : ℕ) → n ≤ length fs → Sound w es (take n fs) → gs ≡ take n fs → Found fs es (Record (record { start = n; count = length fs - n })) (Some i)
     → Made w es (take n fs) es gs (s_rec (drop n fs)) (length fs - n) i
 sealed_old w es fs gs n i h s q f =
     let m = made_old w es (take n fs) (s_rec (drop n fs)) i s f.0
@@ -134,15 +136,15 @@ sealed_old w es fs gs n i h s q f =
     subst (λ z. Made w es (take n fs) es z (s_rec (drop n fs)) (length fs - n) i) (sym q)
     (record { sound = m.sound; grown = m.grown; here = m.here; is = m.is; few = m.few; slim = omega arith })
 
-pub sealed_new : (w : ℕ) (es : List Entry) (fs : List Field) (n : ℕ) → n ≤ length fs → Sound w es (take n fs) → Rising w (length es) 0 (drop n fs) → Found fs es (Record n (length fs - n)) None
-    → Made w es (take n fs) (es ++ (Record n (length fs - n) ∷ [])) fs (s_rec (drop n fs)) (length fs - n) (length es)
+pub sealed_new : (w : ℕ) (es : List Entry) (fs : List Field) (n : ℕ) → n ≤ length fs → Sound w es (take n fs) → Rising w (length es) 0 (drop n fs) → Found fs es (Record (record { start = n; count = length fs - n })) None
+    → Made w es (take n fs) (es ++ (Record (record { start = n; count = length fs - n }) ∷ [])) fs (s_rec (drop n fs)) (length fs - n) (length es)
 unfolding Below
 sealed_new w es fs n h s r f =
     let sw = sound_wide w es fs n h s in
-    let m = made_new w es fs (Record n (length fs - n)) sw (omega arith) (subst (λ z. Rising w (length es) 0 z) (sym (whole fs n h)) r) f in
+    let m = made_new w es fs (Record (record { start = n; count = length fs - n })) sw (omega arith) (subst (λ z. Rising w (length es) 0 z) (sym (whole fs n h)) r) f in
     record {
       sound = m.sound;
-      grown = subst (λ z. Grown z (shapes fs (es ++ (Record n (length fs - n) ∷ [])))) (sym (wide_same w es fs n h s)) m.grown;
+      grown = subst (λ z. Grown z (shapes fs (es ++ (Record (record { start = n; count = length fs - n }) ∷ [])))) (sym (wide_same w es fs n h s)) m.grown;
       here = m.here;
       is = m.is ∙ ap s_rec (whole fs n h);
       few = m.few;
@@ -154,13 +156,27 @@ pub made_push : (w : ℕ) (es xs : List Entry) (fs : List Field) (e : Entry) (r 
 made_push w es xs fs e r s l b f q n =
     subst (λ z. Made w es fs z fs (shape fs e) 0 r) (sym q) (subst (λ z. Made w es fs (es ++ (e ∷ [])) fs (shape fs e) 0 z) (sym n) (made_new w es fs e s l b f))
 
-pub sealed_push : (w : ℕ) (es xs : List Entry) (fs : List Field) (n r k : ℕ) → n ≤ length fs → Sound w es (take n fs) → Rising w (length es) 0 (drop n fs) → k ≡ length fs - n → Found fs es (Record n k) None → xs ≡ es ++ (Record n k ∷ []) → r ≡ length es
+pub sealed_push : (w : ℕ) (es xs : List Entry) (fs : List Field) (n r k : ℕ) → n ≤ length fs → Sound w es (take n fs) → Rising w (length es) 0 (drop n fs) → k ≡ length fs - n → Found fs es (Record (record { start = n; count = k })) None → xs ≡ es ++ (Record (record { start = n; count = k }) ∷ []) → r ≡ length es
     → Made w es (take n fs) xs fs (s_rec (drop n fs)) (length fs - n) r
 sealed_push w es xs fs n r k h s b e f q m =
-    subst (λ z. Made w es (take n fs) z fs (s_rec (drop n fs)) (length fs - n) r) (sym (q ∙ ap (λ z. es ++ (Record n z ∷ [])) e))
-    (subst (λ z. Made w es (take n fs) (es ++ (Record n (length fs - n) ∷ [])) fs (s_rec (drop n fs)) (length fs - n) z) (sym m)
-    (sealed_new w es fs n h s b (subst (λ z. Found fs es (Record n z) None) e f)))
+    subst (λ z. Made w es (take n fs) z fs (s_rec (drop n fs)) (length fs - n) r) (sym (q ∙ ap (λ z. es ++ (Record (record { start = n; count = z }) ∷ [])) e))
+    (subst (λ z. Made w es (take n fs) (es ++ (Record (record { start = n; count = length fs - n }) ∷ [])) fs (s_rec (drop n fs)) (length fs - n) z) (sym m)
+    (sealed_new w es fs n h s b (subst (λ z. Found fs es (Record (record { start = n; count = z })) None) e f)))
 
-pub sealed_cut : (w : ℕ) (es : List Entry) (fs gs : List Field) (n i k : ℕ) → n ≤ length fs → Sound w es (take n fs) → gs ≡ take n fs → k ≡ length fs - n → Found fs es (Record n k) (Some i)
+pub sealed_cut : (w : ℕ) (es : List Entry) (fs gs : List Field) (n i k : ℕ) → n ≤ length fs → Sound w es (take n fs) → gs ≡ take n fs → k ≡ length fs - n → Found fs es (Record (record { start = n; count = k })) (Some i)
     → Made w es (take n fs) es gs (s_rec (drop n fs)) (length fs - n) i
-sealed_cut w es fs gs n i k h s q e f = sealed_old w es fs gs n i h s q (subst (λ z. Found fs es (Record n z) (Some i)) e f)
+sealed_cut w es fs gs n i k h s q e f = sealed_old w es fs gs n i h s q (subst (λ z. Found fs es (Record (record { start = n; count = z })) (Some i)) e f)
+
+-- two records are of the same shape where their fields are the same
+pub records_told : (fs xs ys : List Field) (x y : Entry) (p q : Run) (r : Bool) → x ≡ Record p → y ≡ Record q → xs ≡ held fs p → ys ≡ held fs q → Decides r (xs ≡ ys) → Tells r (shape fs x ≡ shape fs y)
+records_told fs xs ys x y p q true a b e f d = ap (λ z. shape fs z) a ∙ (ap s_rec (sym e ∙ (d.0 refl ∙ f)) ∙ sym (ap (λ z. shape fs z) b))
+records_told fs xs ys x y p q false a b e f d = λ h.
+    let k : s_rec (held fs p) ≡ s_rec (held fs q) = sym (ap (λ z. shape fs z) a) ∙ (h ∙ ap (λ z. shape fs z) b) in
+    let l : held fs p ≡ held fs q = cc in
+    let z : ◌≡◌ {A = Bool} false true = d.1 (e ∙ (l ∙ sym f)) in
+    cc
+
+-- a table of no types
+pub sound_none : (w : ℕ) (es : List Entry) (fs : List Field) → es ≡ [] → Sound w es fs
+unfolding shapes
+sound_none w es fs e = subst (λ z. Sound w z fs) (sym e) (record { lies = λ i h. absurd (omega arith); good = record { parts = λ i h. absurd (omega arith); once = λ i j h k q. absurd (omega arith) } })

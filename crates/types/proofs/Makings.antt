@@ -1,6 +1,6 @@
 -- Records made of names and types one by one.
-use Rattle.std.proofs.Common.{◌≡◌, ℕ, suc, ◌+◌, ◌<◌, ◌≤◌, Bool, true, false, ◌&&◌, leb, List, [], ◌∷◌, ◌++◌, length, get_or, drop, Some, vec_items, sym, refl, ap, ◌∙◌, ap₂, add-one, arith, leb-true}
-use Rattle.std.proofs.lemmas.List.{length-append, append_assoc, append-nil, drop_more, drop_all}
+use Rattle.std.proofs.Common.{◌≡◌, ℕ, suc, ◌+◌, ◌<◌, ◌≤◌, Bool, true, false, ◌&&◌, leb, List, [], ◌∷◌, ◌++◌, length, get_or, take, drop, Some, vec_items, sym, refl, ap, ◌∙◌, subst, ap₂, arith, leb-true}
+use Rattle.std.proofs.lemmas.List.{length-append, append_assoc, append-nil}
 use Rattle.query.specs.Data.{Name}
 use Rattle.query.specs.Query.{a_rec, Tys, ty}
 use Rattle.query.specs.Types.{if_so}
@@ -15,42 +15,56 @@ use Rattle.types.specs.declared.table.Table.{Table}
 use Rattle.types.proofs.Operators.{if_yes}
 use Rattle.types.proofs.Meanings.{made_says}
 
--- rising, number by number
-rise_step : (at k : ℕ) (ks : List ℕ) → rise at (k ∷ ks) ≡ leb at k && rise (suc k) ks
-unfolding rise
-rise_step at k ks = refl
+leb_yes : (m n : ℕ) → m ≤ n → leb m n ≡ true
+leb_yes m n o = grind arith
 
-pub rise_on : (ks : List ℕ) (i at k : ℕ) → i < length ks → rise 0 ks ≡ rise at (drop i ks) → get_or ks i 0 ≡ k → at ≤ k → rise 0 ks ≡ rise (k + 1) (drop (i + 1) ks)
-rise_on ks i at k h e q l =
-    e ∙ (ap (λ (z : List ℕ). rise at z) (drop_more ks i 0 h) ∙ (rise_step at (get_or ks i 0) (drop (i + 1) ks)
-    ∙ ap₂ (λ (a b : Bool). a && b) (yes (get_or ks i 0) (omega arith)) (ap (λ z. rise z (drop (i + 1) ks)) (ap suc q ∙ sym (add-one k)))))
-  where
-    yes : (m : ℕ) → at ≤ m → leb at m ≡ true
-    yes m o = grind arith
+leb_no : (m n : ℕ) → n < m → leb m n ≡ false
+leb_no m n o = grind arith
 
-pub rise_off : (ks : List ℕ) (i at k : ℕ) → i < length ks → rise 0 ks ≡ rise at (drop i ks) → get_or ks i 0 ≡ k → k < at → false ≡ rise 0 ks
-rise_off ks i at k h e q l =
-    sym (e ∙ (ap (λ (z : List ℕ). rise at z) (drop_more ks i 0 h) ∙ (rise_step at (get_or ks i 0) (drop (i + 1) ks)
-    ∙ ap (λ (a : Bool). a && rise (suc (get_or ks i 0)) (drop (i + 1) ks)) (off (get_or ks i 0) (omega arith)))))
-  where
-    off : (m : ℕ) → m < at → leb at m ≡ false
-    off m o = grind arith
+-- numbers that rise from the first of them on
+unfoldable pub climb : List ℕ → Bool
+climb [] = true
+climb (k ∷ ks) = rise (suc k) ks
 
-pub rise_end : (ks : List ℕ) (i at : ℕ) → length ks ≤ i → rise 0 ks ≡ rise at (drop i ks) → true ≡ rise 0 ks
-unfolding rise
-rise_end ks i at h e = sym (e ∙ ap (λ (z : List ℕ). rise at z) (drop_all i ks h))
+pub climb_start : (ks : List ℕ) → rise 0 ks ≡ climb ks
+unfolding climb rise
+climb_start [] = refl
+climb_start (k ∷ ks) = ap (λ (b : Bool). b && rise (suc k) ks) (leb_yes 0 k (omega arith))
+
+climb_both : (x y : ℕ) (ks : List ℕ) → climb (x ∷ y ∷ ks) ≡ leb (suc x) y && climb (y ∷ ks)
+unfolding climb rise
+climb_both x y ks = refl
+
+pub climb_on : (s t w : List ℕ) → 2 ≤ length s → w ≡ take 2 s → t ≡ drop 1 s → get_or w 0 0 < get_or w 1 0 → climb s ≡ climb t
+climb_on [] t w l e q h = absurd (omega arith)
+climb_on (x ∷ []) t w l e q h = absurd (omega arith)
+climb_on (x ∷ (y ∷ s)) t w l e q h =
+    let o : x < y = subst (λ (z : List ℕ). get_or z 0 0 < get_or z 1 0) e h in
+    climb_both x y s ∙ (ap (λ (b : Bool). b && climb (y ∷ s)) (leb_yes (suc x) y o) ∙ ap (λ (z : List ℕ). climb z) (sym q))
+
+pub climb_off : (s w : List ℕ) → 2 ≤ length s → w ≡ take 2 s → get_or w 1 0 ≤ get_or w 0 0 → false ≡ climb s
+climb_off [] w l e h = absurd (omega arith)
+climb_off (x ∷ []) w l e h = absurd (omega arith)
+climb_off (x ∷ (y ∷ s)) w l e h =
+    let o : y ≤ x = subst (λ (z : List ℕ). get_or z 1 0 ≤ get_or z 0 0) e h in
+    sym (climb_both x y s ∙ ap (λ (b : Bool). b && climb (y ∷ s)) (leb_no (suc x) y (omega arith)))
+
+pub climb_end : (s : List ℕ) → length s < 2 → true ≡ climb s
+unfolding climb rise
+climb_end [] l = refl
+climb_end (x ∷ []) l = refl
+climb_end (x ∷ (y ∷ s)) l = absurd (omega arith)
 
 -- fields one by one
-pub zip_on : (fs gs hs : List Field) (ks xs : List ℕ) (i : ℕ) (f : Field) → i < length ks → length xs ≡ length ks → gs ++ zip_f (drop i ks) (drop i xs) ≡ fs ++ zip_f ks xs → f ≡ record { name = get_or ks i 0; of = get_or xs i 0 } → hs ≡ gs ++ (f ∷ [])
-    → hs ++ zip_f (drop (i + 1) ks) (drop (i + 1) xs) ≡ fs ++ zip_f ks xs
+pub zip_on : (gs hs all : List Field) (ks xs ks' xs' : List ℕ) (k x : ℕ) → gs ++ zip_f ks xs ≡ all → ks ≡ k ∷ ks' → xs ≡ x ∷ xs' → hs ≡ gs ++ (record { name = k; of = x } ∷ []) → hs ++ zip_f ks' xs' ≡ all
 unfolding zip_f
-zip_on fs gs hs ks xs i f h l e q m =
-    ap (λ (z : List Field). z ++ zip_f (drop (i + 1) ks) (drop (i + 1) xs)) (m ∙ ap (λ (z : Field). gs ++ (z ∷ [])) q)
-    ∙ (append_assoc gs _ _ ∙ (ap (λ (z : List Field). gs ++ z) (sym (ap₂ (λ (a b : List ℕ). zip_f a b) (drop_more ks i 0 h) (drop_more xs i 0 (omega arith)))) ∙ e))
+zip_on gs hs all ks xs ks' xs' k x e a b m =
+    ap (λ (z : List Field). z ++ zip_f ks' xs') m ∙ (append_assoc gs _ _ ∙ (ap (λ (z : List Field). gs ++ z) (sym (ap₂ (λ (u v : List ℕ). zip_f u v) a b)) ∙ e))
 
-pub zip_end : (fs gs : List Field) (ks xs : List ℕ) (i : ℕ) → length ks ≤ i → gs ++ zip_f (drop i ks) (drop i xs) ≡ fs ++ zip_f ks xs → gs ≡ fs ++ zip_f ks xs
+pub zip_end : (gs all : List Field) (ks xs : List ℕ) → length ks ≤ 0 → gs ++ zip_f ks xs ≡ all → gs ≡ all
 unfolding zip_f
-zip_end fs gs ks xs i h e = sym (append-nil gs) ∙ (ap (λ (z : List ℕ). gs ++ zip_f z (drop i xs)) (sym (drop_all i ks h)) ∙ e)
+zip_end gs all [] xs h e = sym (append-nil gs) ∙ e
+zip_end gs all (k ∷ ks) xs h e = absurd (omega arith)
 
 pub zip_length : (ks xs : List ℕ) → length xs ≡ length ks → length (zip_f ks xs) ≡ length ks
 unfolding zip_f
@@ -58,13 +72,13 @@ zip_length [] xs e = refl
 zip_length (k ∷ ks) [] e = absurd (omega arith)
 zip_length (k ∷ ks) (x ∷ xs) e = ap suc (zip_length ks xs (omega arith))
 
-pub zip_room : (fs gs : List Field) (ks xs : List ℕ) (i : ℕ) → i < length ks → length xs ≡ length ks → gs ++ zip_f (drop i ks) (drop i xs) ≡ fs ++ zip_f ks xs → length gs < length fs + length ks
+pub zip_room : (fs gs : List Field) (kk xx ks xs ks' xs' : List ℕ) (k x : ℕ) → length xx ≡ length kk → gs ++ zip_f ks xs ≡ fs ++ zip_f kk xx → ks ≡ k ∷ ks' → xs ≡ x ∷ xs' → length gs < length fs + length kk
 unfolding zip_f
-zip_room fs gs ks xs i h l e =
-    let a = ap (λ (z : List Field). length z) (ap (λ (z : List Field). gs ++ z) (sym (ap₂ (λ (a b : List ℕ). zip_f a b) (drop_more ks i 0 h) (drop_more xs i 0 (omega arith)))) ∙ e) in
-    let b = length-append gs (record { name = get_or ks i 0; of = get_or xs i 0 } ∷ zip_f (drop (i + 1) ks) (drop (i + 1) xs)) in
-    let c = length-append fs (zip_f ks xs) in
-    let d = zip_length ks xs l in
+zip_room fs gs kk xx ks xs ks' xs' k x l e a b =
+    let q = ap (λ (z : List Field). length z) (ap (λ (z : List Field). gs ++ z) (sym (ap₂ (λ (u v : List ℕ). zip_f u v) a b)) ∙ e) in
+    let r = length-append gs (record { name = k; of = x } ∷ zip_f ks' xs') in
+    let c = length-append fs (zip_f kk xx) in
+    let d = zip_length kk xx l in
     omega arith
 
 pub zip_rises : (w b at : ℕ) (ks xs : List ℕ) → true ≡ rise at ks → NamesOf w ks → NamesOf b xs → length xs ≡ length ks → Rising w b at (zip_f ks xs)

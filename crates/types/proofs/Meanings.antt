@@ -1,13 +1,14 @@
 -- From numbers to types: what holds of a table's entries, and how outcomes are put together.
 use Rattle.std.proofs.Common.{◌≡◌, ℕ, suc, ◌+◌, ◌<◌, ◌≤◌, Bool, true, false, List, [], ◌∷◌, ◌++◌, length, get_or, take, drop, Some, None, vec_items, Option, sym, refl, ap, ◌∙◌, subst, arith}
+use Rattle.std.specs.Bool.{Decides}
 use Rattle.query.specs.Data.{Name}
 use Rattle.query.specs.Query.{Ty, a_truth, a_rec}
 use Rattle.query.specs.Types.{same_ty, as_num, elem, fields_of, sides_of, on_ty}
 use Rattle.query.proofs.TypeParts.{same_ty_out, same_ty_self}
 use Rattle.std.proofs.lemmas.List.{append_assoc, length-append}
 use Rattle.types.specs.Shapes.{Shape, shape, run, meaning, types, type_at, Ranked, Rising, Below, Grown}
-use Rattle.types.specs.Tables.{Sound, Made, Kept, Lies, bag_part, run_part, sides_part, truth_part, num_part}
-use Rattle.types.specs.Outcomes.{look, size, spread, Tidy, Room, told, Within, Grew, Meant, Says}
+use Rattle.types.specs.Tables.{Sound, Made, Lies, bag_part, run_part, sides_part}
+use Rattle.types.specs.Outcomes.{look, size, spread, Tidy, Kept, Room, told, Within, Grew, Meant, Says}
 use Rattle.types.specs.declared.entry.Field.{Field}
 use Rattle.types.specs.declared.entry.Entry.{Entry}
 use Rattle.types.specs.declared.entry.Entry.TheVariants.{Unit as Unit', Num, Truth, Text, Bag, Either, Record}
@@ -130,8 +131,8 @@ elem_entry ns ss fs Num = refl
 elem_entry ns ss fs Truth = refl
 elem_entry ns ss fs Text = refl
 elem_entry ns ss fs (Bag j) = refl
-elem_entry ns ss fs (Either j k) = refl
-elem_entry ns ss fs (Record a n) = refl
+elem_entry ns ss fs (Either p) = refl
+elem_entry ns ss fs (Record p) = refl
 
 part_below : (w x m : ℕ) (fs : List Field) (e : Entry) → x < m → Below w x (shape fs e) → Within m (bag_part e)
 unfolding Below
@@ -140,8 +141,8 @@ part_below w x m fs Num h b = tt
 part_below w x m fs Truth h b = tt
 part_below w x m fs Text h b = tt
 part_below w x m fs (Bag j) h b = omega arith
-part_below w x m fs (Either j k) h b = tt
-part_below w x m fs (Record a n) h b = tt
+part_below w x m fs (Either p) h b = tt
+part_below w x m fs (Record p) h b = tt
 
 pub elem_grew : (t : Table) → Tidy t → (x : ℕ) → x < size t → (r : Option ℕ) → r ≡ bag_part (get_or (vec_items t.entries) x Unit') → Grew t t r
 elem_grew t s x h r e = stay r s (subst (λ z. Within (size t) z) (sym e) (part_below t.names x (size t) (vec_items t.fields) (get_or (vec_items t.entries) x Unit') h (below_here t s x h)))
@@ -161,41 +162,57 @@ apart t u h = by (same_ty t u) refl
 pub alike : (t u : Ty) → t ≡ u → same_ty t u ≡ true
 alike t u e = ap (λ z. same_ty t z) (sym e) ∙ same_ty_self t
 
-truth_entry : (ns : List Name) (ts : List Ty) (fs : List Field) (e : Entry) → truth_part e ≡ same_ty (meaning ns ts (shape fs e)) a_truth
+truth_entry : (ns : List Name) (ts : List Ty) (fs : List Field) (e : Entry) → (e ≡ Truth → ⊥) → false ≡ same_ty (meaning ns ts (shape fs e)) a_truth
 unfolding meaning
-truth_entry ns ts fs Unit' = sym (apart _ a_truth (λ q. let z : ◌≡◌ {A = ℕ} 0 1 = cc in omega arith))
-truth_entry ns ts fs Num = sym (apart _ a_truth (λ q. let z : ◌≡◌ {A = ℕ} 0 1 = cc in omega arith))
-truth_entry ns ts fs Truth = sym (same_ty_self a_truth)
-truth_entry ns ts fs Text = sym (apart _ a_truth (λ q. let z : ◌≡◌ {A = ℕ} 0 1 = cc in omega arith))
-truth_entry ns ts fs (Bag j) = sym (apart _ a_truth (λ q. let z : ◌≡◌ {A = ℕ} 0 1 = cc in omega arith))
-truth_entry ns ts fs (Either j k) = sym (apart _ a_truth (λ q. let z : ◌≡◌ {A = ℕ} 0 1 = cc in omega arith))
-truth_entry ns ts fs (Record a n) = sym (apart _ a_truth (λ q. let z : ◌≡◌ {A = ℕ} 0 1 = cc in omega arith))
+truth_entry ns ts fs Unit' n = sym (apart _ a_truth (λ q. cc))
+truth_entry ns ts fs Num n = sym (apart _ a_truth (λ q. cc))
+truth_entry ns ts fs Truth n = absurd (n refl)
+truth_entry ns ts fs Text n = sym (apart _ a_truth (λ q. cc))
+truth_entry ns ts fs (Bag j) n = sym (apart _ a_truth (λ q. cc))
+truth_entry ns ts fs (Either p) n = sym (apart _ a_truth (λ q. cc))
+truth_entry ns ts fs (Record p) n = sym (apart _ a_truth (λ q. cc))
 
-num_entry : (ns : List Name) (ts : List Ty) (fs : List Field) (e : Entry) → num_part e ≡ as_num (meaning ns ts (shape fs e))
+num_entry : (ns : List Name) (ts : List Ty) (fs : List Field) (e : Entry) → (e ≡ Num → ⊥) → false ≡ as_num (meaning ns ts (shape fs e))
 unfolding meaning as_num
-num_entry ns ts fs Unit' = refl
-num_entry ns ts fs Num = refl
-num_entry ns ts fs Truth = refl
-num_entry ns ts fs Text = refl
-num_entry ns ts fs (Bag j) = refl
-num_entry ns ts fs (Either j k) = refl
-num_entry ns ts fs (Record a n) = refl
+num_entry ns ts fs Unit' n = refl
+num_entry ns ts fs Num n = absurd (n refl)
+num_entry ns ts fs Truth n = refl
+num_entry ns ts fs Text n = refl
+num_entry ns ts fs (Bag j) n = refl
+num_entry ns ts fs (Either p) n = refl
+num_entry ns ts fs (Record p) n = refl
 
-pub truth_says : (t : Table) → Tidy t → (x : ℕ) → x < size t → (r : Bool) → r ≡ truth_part (get_or (vec_items t.entries) x Unit') → (ns : List Name) → r ≡ same_ty (type_at ns (look t) x) a_truth
-truth_says t s x h r e ns = e ∙ (truth_entry ns (types ns (look t)) (vec_items t.fields) (get_or (vec_items t.entries) x Unit') ∙ ap (λ (z : Ty). same_ty z a_truth) (sym (type_here t s x h ns)))
+truth_yes : (t : Table) → Tidy t → (x : ℕ) → x < size t → get_or (vec_items t.entries) x Unit' ≡ Truth → (ns : List Name) → true ≡ same_ty (type_at ns (look t) x) a_truth
+unfolding meaning
+truth_yes t s x h e ns = sym (alike _ a_truth (type_here t s x h ns ∙ ap (λ (z : Entry). meaning ns (types ns (look t)) (shape (vec_items t.fields) z)) e))
 
-pub num_says : (t : Table) → Tidy t → (x : ℕ) → x < size t → (r : Bool) → r ≡ num_part (get_or (vec_items t.entries) x Unit') → (ns : List Name) → r ≡ as_num (type_at ns (look t) x)
-num_says t s x h r e ns = e ∙ (num_entry ns (types ns (look t)) (vec_items t.fields) (get_or (vec_items t.entries) x Unit') ∙ ap as_num (sym (type_here t s x h ns)))
+truth_no : (t : Table) → Tidy t → (x : ℕ) → x < size t → (get_or (vec_items t.entries) x Unit' ≡ Truth → ⊥) → (ns : List Name) → false ≡ same_ty (type_at ns (look t) x) a_truth
+truth_no t s x h n ns = truth_entry ns (types ns (look t)) (vec_items t.fields) _ n ∙ ap (λ (z : Ty). same_ty z a_truth) (sym (type_here t s x h ns))
+
+pub truth_says : (t : Table) → Tidy t → (x : ℕ) → x < size t → (e : Entry) → e ≡ get_or (vec_items t.entries) x Unit' → (r : Bool) → Decides r (e ≡ Truth) → (ns : List Name) → r ≡ same_ty (type_at ns (look t) x) a_truth
+truth_says t s x h e q true d ns = truth_yes t s x h (sym q ∙ d.0 refl) ns
+truth_says t s x h e q false d ns = truth_no t s x h (λ k. let z : ◌≡◌ {A = Bool} false true = d.1 (q ∙ k) in cc) ns
+
+num_yes : (t : Table) → Tidy t → (x : ℕ) → x < size t → get_or (vec_items t.entries) x Unit' ≡ Num → (ns : List Name) → true ≡ as_num (type_at ns (look t) x)
+unfolding meaning as_num
+num_yes t s x h e ns = sym (ap as_num (type_here t s x h ns ∙ ap (λ (z : Entry). meaning ns (types ns (look t)) (shape (vec_items t.fields) z)) e))
+
+num_no : (t : Table) → Tidy t → (x : ℕ) → x < size t → (get_or (vec_items t.entries) x Unit' ≡ Num → ⊥) → (ns : List Name) → false ≡ as_num (type_at ns (look t) x)
+num_no t s x h n ns = num_entry ns (types ns (look t)) (vec_items t.fields) _ n ∙ ap as_num (sym (type_here t s x h ns))
+
+pub num_says : (t : Table) → Tidy t → (x : ℕ) → x < size t → (e : Entry) → e ≡ get_or (vec_items t.entries) x Unit' → (r : Bool) → Decides r (e ≡ Num) → (ns : List Name) → r ≡ as_num (type_at ns (look t) x)
+num_says t s x h e q true d ns = num_yes t s x h (sym q ∙ d.0 refl) ns
+num_says t s x h e q false d ns = num_no t s x h (λ k. let z : ◌≡◌ {A = Bool} false true = d.1 (q ∙ k) in cc) ns
 
 -- a record's entry
-pub run_found : (e : Entry) (p : Run) → Some p ≡ run_part e → e ≡ Record p.start p.count
-run_found Unit' p h = let z : ◌≡◌ {A = ℕ} 0 1 = cc in absurd (omega arith)
-run_found Num p h = let z : ◌≡◌ {A = ℕ} 0 1 = cc in absurd (omega arith)
-run_found Truth p h = let z : ◌≡◌ {A = ℕ} 0 1 = cc in absurd (omega arith)
-run_found Text p h = let z : ◌≡◌ {A = ℕ} 0 1 = cc in absurd (omega arith)
-run_found (Bag j) p h = let z : ◌≡◌ {A = ℕ} 0 1 = cc in absurd (omega arith)
-run_found (Either j k) p h = let z : ◌≡◌ {A = ℕ} 0 1 = cc in absurd (omega arith)
-run_found (Record a n) p h = let q : ◌≡◌ {A = Run} (record { start = a; count = n }) p = cc in ap (λ (z : Run). Record z.start z.count) q
+pub run_found : (e : Entry) (p : Run) → Some p ≡ run_part e → e ≡ Record p
+run_found Unit' p h = absurd cc
+run_found Num p h = absurd cc
+run_found Truth p h = absurd cc
+run_found Text p h = absurd cc
+run_found (Bag j) p h = absurd cc
+run_found (Either q) p h = absurd cc
+run_found (Record q) p h = cc
 
 no_fields : (ns : List Name) (ts : List Ty) (fs : List Field) (e : Entry) → None ≡ run_part e → fields_of (meaning ns ts (shape fs e)) ≡ []
 unfolding meaning fields_of
@@ -204,8 +221,8 @@ no_fields ns ts fs Num h = refl
 no_fields ns ts fs Truth h = refl
 no_fields ns ts fs Text h = refl
 no_fields ns ts fs (Bag j) h = refl
-no_fields ns ts fs (Either j k) h = refl
-no_fields ns ts fs (Record a n) h = let z : ◌≡◌ {A = ℕ} 0 1 = cc in absurd (omega arith)
+no_fields ns ts fs (Either p) h = refl
+no_fields ns ts fs (Record p) h = absurd cc
 
 pub fields_none : (t : Table) → Tidy t → (x : ℕ) → x < size t → None ≡ run_part (get_or (vec_items t.entries) x Unit') → (ns : List Name) → fields_of (type_at ns (look t) x) ≡ []
 fields_none t s x h e ns = ap fields_of (type_here t s x h ns) ∙ no_fields ns (types ns (look t)) (vec_items t.fields) (get_or (vec_items t.entries) x Unit') e
@@ -224,7 +241,7 @@ rising_wide w k l p (f ∷ fs) h r = (r.0, r.1, omega (arith, r.2), rising_wide 
 pub has : (t : Table) → Tidy t → (x : ℕ) → x < size t → (p : Run) → Some p ≡ run_part (get_or (vec_items t.entries) x Unit') → Has t x p
 unfolding meaning Below
 has t s x h p e =
-    let q : get_or (vec_items t.entries) x Unit' ≡ Record p.start p.count = run_found (get_or (vec_items t.entries) x Unit') p e in
+    let q : get_or (vec_items t.entries) x Unit' ≡ Record p = run_found (get_or (vec_items t.entries) x Unit') p e in
     record {
       lies = subst (λ z. Lies (length (vec_items t.fields)) z) q (s.sound.lies x h);
       rises = rising_wide t.names x (size t) 0 _ (omega arith) (subst (λ z. Below t.names x (shape (vec_items t.fields) z)) q (below_here t s x h));
@@ -232,14 +249,14 @@ has t s x h p e =
     }
 
 -- an either's entry
-pub sides_found : (e : Entry) (p : Two) → Some p ≡ sides_part e → e ≡ Either p.left p.right
-sides_found Unit' p h = let z : ◌≡◌ {A = ℕ} 0 1 = cc in absurd (omega arith)
-sides_found Num p h = let z : ◌≡◌ {A = ℕ} 0 1 = cc in absurd (omega arith)
-sides_found Truth p h = let z : ◌≡◌ {A = ℕ} 0 1 = cc in absurd (omega arith)
-sides_found Text p h = let z : ◌≡◌ {A = ℕ} 0 1 = cc in absurd (omega arith)
-sides_found (Bag j) p h = let z : ◌≡◌ {A = ℕ} 0 1 = cc in absurd (omega arith)
-sides_found (Either j k) p h = let q : ◌≡◌ {A = Two} (record { left = j; right = k }) p = cc in ap (λ (z : Two). Either z.left z.right) q
-sides_found (Record a n) p h = let z : ◌≡◌ {A = ℕ} 0 1 = cc in absurd (omega arith)
+pub sides_found : (e : Entry) (p : Two) → Some p ≡ sides_part e → e ≡ Either p
+sides_found Unit' p h = absurd cc
+sides_found Num p h = absurd cc
+sides_found Truth p h = absurd cc
+sides_found Text p h = absurd cc
+sides_found (Bag j) p h = absurd cc
+sides_found (Either q) p h = cc
+sides_found (Record q) p h = absurd cc
 
 no_sides : (ns : List Name) (ts : List Ty) (fs : List Field) (e : Entry) → None ≡ sides_part e → sides_of (meaning ns ts (shape fs e)) ≡ []
 unfolding meaning sides_of
@@ -248,8 +265,8 @@ no_sides ns ts fs Num h = refl
 no_sides ns ts fs Truth h = refl
 no_sides ns ts fs Text h = refl
 no_sides ns ts fs (Bag j) h = refl
-no_sides ns ts fs (Either j k) h = let z : ◌≡◌ {A = ℕ} 0 1 = cc in absurd (omega arith)
-no_sides ns ts fs (Record a n) h = refl
+no_sides ns ts fs (Either p) h = absurd cc
+no_sides ns ts fs (Record p) h = refl
 
 pub sides_none : (t : Table) → Tidy t → (x : ℕ) → x < size t → None ≡ sides_part (get_or (vec_items t.entries) x Unit') → (ns : List Name) → sides_of (type_at ns (look t) x) ≡ []
 sides_none t s x h e ns = ap sides_of (type_here t s x h ns) ∙ no_sides ns (types ns (look t)) (vec_items t.fields) (get_or (vec_items t.entries) x Unit') e
@@ -262,7 +279,7 @@ pub record Sided (t : Table) (x : ℕ) (p : Two) : Type 0 where
 pub sided : (t : Table) → Tidy t → (x : ℕ) → x < size t → (p : Two) → Some p ≡ sides_part (get_or (vec_items t.entries) x Unit') → Sided t x p
 unfolding meaning Below sides_of
 sided t s x h p e =
-    let q : get_or (vec_items t.entries) x Unit' ≡ Either p.left p.right = sides_found (get_or (vec_items t.entries) x Unit') p e in
+    let q : get_or (vec_items t.entries) x Unit' ≡ Either p = sides_found (get_or (vec_items t.entries) x Unit') p e in
     let b : (p.left < x) × (p.right < x) = subst (λ z. Below t.names x (shape (vec_items t.fields) z)) q (below_here t s x h) in
     record {
       left = omega (arith, b.0);

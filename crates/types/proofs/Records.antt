@@ -51,7 +51,7 @@ run_both ns w rk ts k xs (y ∷ ys) r s =
 
 get_below : (w k p n i : ℕ) (fs : List Field) → Rising w k p fs → i ∷ [] ≡ get_f n fs → i < k
 unfolding Rising get_f
-get_below w k p n i [] r e = let z : ◌≡◌ {A = ℕ} 0 1 = cc in absurd (omega arith)
+get_below w k p n i [] r e = absurd cc
 get_below w k p n i (f ∷ fs) r e =
     elim (sides (eqb n f.name)) [
       | inl b ↦ let q : i ∷ [] ≡ f.of ∷ [] = e ∙ pick_true (eqb n f.name) _ _ b in let o : i ≡ f.of = cc in omega (arith, r.2)

@@ -28,8 +28,8 @@ run_told : (ns : List Name) (w : ℕ) → Ranked ns w → (ts : List Ty) (b c p 
     → ((k l : ℕ) → k < b → l < c → get_or ts k a_unit ≡ get_or ts l a_unit → k ≡ l) → run ns ts fs ≡ run ns ts gs → fs ≡ gs
 unfolding run Rising
 run_told ns w rk ts b c p q [] [] r s inj h = refl
-run_told ns w rk ts b c p q [] (g ∷ gs) r s inj h = let z : ◌≡◌ {A = ℕ} 0 1 = cc in absurd (omega arith)
-run_told ns w rk ts b c p q (f ∷ fs) [] r s inj h = let z : ◌≡◌ {A = ℕ} 0 1 = cc in absurd (omega arith)
+run_told ns w rk ts b c p q [] (g ∷ gs) r s inj h = absurd cc
+run_told ns w rk ts b c p q (f ∷ fs) [] r s inj h = absurd cc
 run_told ns w rk ts b c p q (f ∷ fs) (g ∷ gs) r s inj h =
     let en : get_or ns f.name [] ≡ get_or ns g.name [] = cc in
     let et : get_or ts f.of a_unit ≡ get_or ts g.of a_unit = cc in

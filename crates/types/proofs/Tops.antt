@@ -1,13 +1,15 @@
 -- Fields put on top, to be a record. Assumes nothing.
 use Rattle.std.proofs.Common.{◌≡◌, ℕ, ◌+◌, ◌-◌, ◌<◌, ◌≤◌, List, [], ◌∷◌, ◌++◌, length, take, drop, sym, refl, ap, ◌∙◌, subst, ap₂, arith}
 use Rattle.std.proofs.lemmas.List.{length-append, append_assoc, append-nil, take_at, drop_at}
-use Rattle.types.specs.Shapes.{Shape, s_rec, Rising}
+use Rattle.types.specs.Shapes.{Shape, s_rec, held, Rising}
 use Rattle.types.specs.Tables.{Sound, Made}
 use Rattle.types.specs.Fields.{both_f, Stepped}
 use Rattle.types.specs.declared.entry.Field.{Field}
 use Rattle.types.specs.declared.entry.Entry.{Entry}
 use Rattle.types.specs.declared.entry.Next.{Next}
-use Rattle.types.proofs.Runs.{run_kept, run_rest, run_length, run_none}
+use Rattle.types.specs.declared.entry.Run.{Run}
+use Rattle.types.proofs.Runs.{run_kept, run_rest, run_length}
+use Rattle.types.proofs.Makes.{sound_wide}
 use Rattle.types.proofs.Both.{rising_drop, rising_length, both_rises}
 
 pub top_before : (fs gs done : List Field) (n : ℕ) → gs ≡ fs ++ done → n ≡ length fs → take n gs ≡ fs
@@ -21,6 +23,10 @@ top_start fs gs done n e q = omega (arith, ap (λ (z : List Field). length z) e,
 
 pub top_sound : (w : ℕ) (es : List Entry) (fs gs done : List Field) (n : ℕ) → gs ≡ fs ++ done → n ≡ length fs → Sound w es fs → Sound w es (take n gs)
 top_sound w es fs gs done n e q s = subst (λ z. Sound w es z) (sym (top_before fs gs done n e q)) s
+
+-- fields on top change no type
+pub sound_field : (w : ℕ) (es : List Entry) (fs gs done : List Field) → gs ≡ fs ++ done → Sound w es fs → Sound w es gs
+sound_field w es fs gs done e s = sound_wide w es gs (length fs) (top_start fs gs done (length fs) e refl) (top_sound w es fs gs done (length fs) e refl s)
 
 pub top_rises : (w k : ℕ) (fs gs done : List Field) (n : ℕ) → gs ≡ fs ++ done → n ≡ length fs → Rising w k 0 done → Rising w k 0 (drop n gs)
 top_rises w k fs gs done n e q r = subst (λ z. Rising w k 0 z) (sym (top_after fs gs done n e q)) r
@@ -118,10 +124,21 @@ merge_on {w} {k} {fs} {xs} {ys} {gs} {a} {n} {b} {m} g r s hs q =
       wide = g.wide;
     }
 
-pub merge_end : {w k : ℕ} {fs xs ys gs : List Field} {a n b m : ℕ} → Merging w k fs xs ys gs a n b m → n ≡ 0 → m ≡ 0 → gs ≡ fs ++ both_f xs ys
+-- with the runs as they are after it
+pub merge_skip : {w k : ℕ} {fs xs ys gs : List Field} {p q : Run} → Merging w k fs xs ys gs p.start p.count q.start q.count → (r : Next) → Stepped (held gs p) (held gs q) r → (hs : List Field) → hs ≡ gs ++ (r.field ∷ [])
+    → (u v : Run) → u.start ≡ p.start + r.first → u.count ≡ p.count - r.first → v.start ≡ q.start + r.second → v.count ≡ q.count - r.second → Merging w k fs xs ys hs u.start u.count v.start v.count
+merge_skip {w} {k} {fs} {xs} {ys} {gs} {p} {q} g r s hs e u v a b c d =
+    subst (λ z. Merging w k fs xs ys hs z u.count v.start v.count) (sym a)
+    (subst (λ z. Merging w k fs xs ys hs (p.start + r.first) z v.start v.count) (sym b)
+    (subst (λ z. Merging w k fs xs ys hs (p.start + r.first) (p.count - r.first) z v.count) (sym c)
+    (subst (λ z. Merging w k fs xs ys hs (p.start + r.first) (p.count - r.first) (q.start + r.second) z) (sym d) (merge_on g r s hs e))))
+
+pub merge_end : {w k : ℕ} {fs xs ys gs : List Field} {a n b m : ℕ} → Merging w k fs xs ys gs a n b m → take n (drop a gs) ≡ [] → take m (drop b gs) ≡ [] → gs ≡ fs ++ both_f xs ys
 unfolding both_f
 merge_end {w} {k} {fs} {xs} {ys} {gs} {a} {n} {b} {m} g p q =
-    g.is ∙ ap (λ (z : List Field). fs ++ z) (sym (g.rest ∙ (ap₂ (λ (u v : List Field). g.done ++ both_f u v) (run_none fs a n p) (run_none fs b m q) ∙ append-nil g.done)))
+    let u = sym (ap (λ (z : List Field). take n (drop a z)) g.is ∙ run_kept fs g.done a n g.first) ∙ p in
+    let v = sym (ap (λ (z : List Field). take m (drop b z)) g.is ∙ run_kept fs g.done b m g.second) ∙ q in
+    g.is ∙ ap (λ (z : List Field). fs ++ z) (sym (g.rest ∙ (ap₂ (λ (u v : List Field). g.done ++ both_f u v) u v ∙ append-nil g.done)))
 
 pub rising_as : (w k w' k' : ℕ) (z : List Field) → w' ≡ w → k' ≡ k → Rising w k 0 z → Rising w' k' 0 z
 rising_as w k w' k' z e f r = subst (λ (x : ℕ). Rising x k' 0 z) (sym e) (subst (λ (x : ℕ). Rising w x 0 z) (sym f) r)

@@ -23,6 +23,16 @@ pub record Stepped (xs ys : List Field) (r : Next) : Type 0 where
   pub second : r.second ≤ length ys
   pub some : 0 < r.first + r.second
 
+-- the first field, if there is one
+abbrev pub FirstOf : List Field → Option Field → Type 0
+FirstOf xs None = xs ≡ []
+FirstOf xs (Some f) = xs ≡ f ∷ drop 1 xs
+
+-- the next field of both, or there is none left
+abbrev pub NextOf : List Field → List Field → Option Next → Type 0
+NextOf xs ys None = (xs ≡ []) × (ys ≡ [])
+NextOf xs ys (Some r) = Stepped xs ys r
+
 -- whether a number is in a list
 unfoldable pub in_f : ℕ → List ℕ → Bool
 in_f n [] = false

@@ -3,3 +3,4 @@ pub mod Tables
 pub mod Fields
 pub mod Outcomes
 pub mod Operators
+pub mod Once

@@ -1,9 +1,9 @@
 -- What an operation on a table says of types.
-use Rattle.std.specs.Prelude.{◌≡◌, ℕ, ◌+◌, ◌<◌, ◌≤◌, Bool, true, false, List, [], ◌∷◌, length, Some, None, vec_items, vec_capacity, Option}
+use Rattle.std.specs.Prelude.{◌≡◌, ℕ, ◌+◌, ◌<◌, ◌≤◌, Bool, true, false, List, [], ◌∷◌, length, Some, None, vec_items, vec_len, vec_capacity, Option}
 use Rattle.query.specs.Data.{Name}
 use Rattle.query.specs.Query.{Ty}
 use Rattle.types.specs.Shapes.{Shape, shapes, type_at, Ranked, Grown}
-use Rattle.types.specs.Tables.{Sound, Open}
+use Rattle.types.specs.Tables.{Sound}
 use Rattle.types.specs.declared.table.Table.{Table}
 
 abbrev pub look : Table → List Shape
@@ -16,10 +16,26 @@ size t = length (vec_items t.entries)
 abbrev pub spread : Table → ℕ
 spread t = length (vec_items t.fields)
 
--- a table is in order, and as large as it is to be
+-- a table is in order, and as large as it is to be: so is every table
 pub record Tidy (t : Table) : Type 0 where
   pub sound : Sound t.names (vec_items t.entries) (vec_items t.fields)
   pub entries : 16400 ≤ vec_capacity t.entries
+  pub fields : 16793600 ≤ vec_capacity t.fields
+
+pub tidy : (t : Table) → Tidy t
+tidy t = record { sound = t.sound; entries = t.types_fit; fields = t.fields_fit }
+
+-- a table is as large, and has as many names
+pub record Kept (t u : Table) : Type 0 where
+  pub names : u.names ≡ t.names
+  pub entries : vec_capacity u.entries ≡ vec_capacity t.entries
+  pub fields : vec_capacity u.fields ≡ vec_capacity t.fields
+
+-- there is room for one entry and so many fields
+pub record Open (t : Table) (s : ℕ) : Type 0 where
+  pub one : vec_len t.entries < 16400
+  pub entries : 16400 ≤ vec_capacity t.entries
+  pub some : vec_len t.fields + s ≤ 16793600
   pub fields : 16793600 ≤ vec_capacity t.fields
 
 -- there is room for so many types and fields more

@@ -4,7 +4,12 @@ use Rattle.query.specs.Data.{Name, same_text, less_text}
 use Rattle.query.specs.Query.{Ty, a_unit, a_num, a_truth, a_text, a_bag, a_rec, an_either, Tys, no_ty, ty}
 use Rattle.types.specs.declared.entry.Field.{Field}
 use Rattle.types.specs.declared.entry.Entry.{Entry}
+use Rattle.types.specs.declared.entry.Run.{Run}
 use Rattle.types.specs.declared.entry.Entry.TheVariants.{Unit as Unit', Num, Truth, Text, Bag, Either, Record}
+
+-- the fields of a record
+abbrev pub held : List Field → Run → List Field
+held fs p = take p.count (drop p.start fs)
 
 -- an entry, with the fields of a record in place of where they stand
 pub data Shape : Type 0 where
@@ -22,8 +27,8 @@ shape fs Num = s_num
 shape fs Truth = s_truth
 shape fs Text = s_text
 shape fs (Bag j) = s_bag j
-shape fs (Either j k) = s_either j k
-shape fs (Record s n) = s_rec (take n (drop s fs))
+shape fs (Either p) = s_either p.left p.right
+shape fs (Record p) = s_rec (held fs p)
 
 unfoldable pub shapes : List Field → List Entry → List Shape
 shapes fs [] = []

@@ -1,12 +1,11 @@
 -- What a table holds. Assumes nothing: these are definitions.
-use Rattle.std.specs.Prelude.{◌≡◌, ℕ, ◌+◌, ◌<◌, ◌≤◌, Bool, true, false, List, length, get_or, Some, None, vec_len, vec_capacity, Option, ◌≢◌, slice_index_or}
+use Rattle.std.specs.Prelude.{◌≡◌, ℕ, ◌+◌, ◌<◌, ◌≤◌, Bool, true, false, List, length, get_or, Some, None, Option, ◌≢◌, slice_index_or}
 use Rattle.types.specs.Shapes.{Shape, s_unit, shape, shapes, Good, Grown}
 use Rattle.types.specs.declared.entry.Field.{Field}
 use Rattle.types.specs.declared.entry.Entry.{Entry}
 use Rattle.types.specs.declared.entry.Entry.TheVariants.{Unit as Unit', Num, Truth, Text, Bag, Either, Record}
 use Rattle.types.specs.declared.entry.Run.{Run}
 use Rattle.types.specs.declared.entry.Two.{Two}
-use Rattle.types.specs.declared.table.Table.{Table}
 
 -- a test tells whether something holds
 abbrev pub Tells : Bool → Type 0 → Type 0
@@ -20,8 +19,8 @@ Lies top Num = Unit {0}
 Lies top Truth = Unit {0}
 Lies top Text = Unit {0}
 Lies top (Bag j) = Unit {0}
-Lies top (Either j k) = Unit {0}
-Lies top (Record s n) = s + n ≤ top
+Lies top (Either p) = Unit {0}
+Lies top (Record p) = p.start + p.count ≤ top
 
 pub record Sound (w : ℕ) (es : List Entry) (fs : List Field) : Type 0 where
   pub lies : (i : ℕ) → i < length es → Lies (length fs) (slice_index_or es i Unit')
@@ -39,19 +38,6 @@ pub record Made (w : ℕ) (es : List Entry) (fs : List Field) (es' : List Entry)
   pub few : length es' ≤ length es + 1
   pub slim : length fs' ≤ length fs + extra
 
--- a table is as large, and has as many names
-pub record Kept (t u : Table) : Type 0 where
-  pub names : u.names ≡ t.names
-  pub entries : vec_capacity u.entries ≡ vec_capacity t.entries
-  pub fields : vec_capacity u.fields ≡ vec_capacity t.fields
-
--- there is room for one entry and so many fields
-pub record Open (t : Table) (s : ℕ) : Type 0 where
-  pub one : vec_len t.entries < 16400
-  pub entries : 16400 ≤ vec_capacity t.entries
-  pub some : vec_len t.fields + s ≤ 16793600
-  pub fields : 16793600 ≤ vec_capacity t.fields
-
 abbrev pub Found : List Field → List Entry → Entry → Option ℕ → Type 0
 Found fs es e None = (i : ℕ) → i < length es → shape fs (slice_index_or es i Unit') ≢ shape fs e
 Found fs es e (Some i) = (i < length es) × (shape fs (slice_index_or es i Unit') ≡ shape fs e)
@@ -63,8 +49,8 @@ bag_part Num = None
 bag_part Truth = None
 bag_part Text = None
 bag_part (Bag j) = Some j
-bag_part (Either j k) = None
-bag_part (Record s n) = None
+bag_part (Either p) = None
+bag_part (Record p) = None
 
 abbrev pub run_part : Entry → Option Run
 run_part Unit' = None
@@ -72,8 +58,8 @@ run_part Num = None
 run_part Truth = None
 run_part Text = None
 run_part (Bag j) = None
-run_part (Either j k) = None
-run_part (Record s n) = Some (record { start = s; count = n })
+run_part (Either p) = None
+run_part (Record p) = Some p
 
 -- the two sides of an either
 abbrev pub sides_part : Entry → Option Two
@@ -82,24 +68,5 @@ sides_part Num = None
 sides_part Truth = None
 sides_part Text = None
 sides_part (Bag j) = None
-sides_part (Either j k) = Some (record { left = j; right = k })
-sides_part (Record s n) = None
-
--- truths and numbers
-abbrev pub truth_part : Entry → Bool
-truth_part Unit' = false
-truth_part Num = false
-truth_part Truth = true
-truth_part Text = false
-truth_part (Bag j) = false
-truth_part (Either j k) = false
-truth_part (Record s n) = false
-
-abbrev pub num_part : Entry → Bool
-num_part Unit' = false
-num_part Num = true
-num_part Truth = false
-num_part Text = false
-num_part (Bag j) = false
-num_part (Either j k) = false
-num_part (Record s n) = false
+sides_part (Either p) = Some p
+sides_part (Record p) = None

@@ -1,33 +1,22 @@
 // Looking a type up in the table, and putting it in where it is not there yet.
-ghost use Rattle.std.specs.Prelude.{◌≡◌, ℕ, ◌+◌, ◌-◌, ◌<◌, ◌≤◌, true, false, length, take, drop, vec_len, vec_capacity, slice_index_or};
-ghost use Rattle.types.specs.Shapes.{shape, Below, Rising, s_rec};
-ghost use Rattle.types.specs.Tables.{Sound, Found, Lies, Tells, Made, Kept, no_such};
+ghost use Rattle.std.specs.Prelude.{◌≡◌, ℕ, ◌+◌, ◌-◌, ◌<◌, ◌≤◌, length, take, drop, vec_len, slice_index_or};
+ghost use Rattle.types.specs.Shapes.{shape, held, Below, Rising, s_rec};
+ghost use Rattle.types.specs.Tables.{Sound, Found, Lies, Tells, Made, no_such};
+ghost use Rattle.types.specs.Outcomes.{Kept};
 
-use crate::entry::{Entry, Field};
+use crate::entry::{Entry, Field, Run};
 use crate::table::Table;
 
-// Whether two fields are the same.
-fn same_field(x: Field, y: Field) -> bool
-    ensures { Tells result (x ≡ y) }
-{
-    x.name == y.name && x.of == y.of
-}
-
-// Whether two runs of fields have the same names and types.
-fn same_run(fields: &[Field], a: usize, n: usize, b: usize, m: usize) -> bool
-    requires first { a + n ≤ length fields.now }
-    requires second { b + m ≤ length fields.now }
-    ensures { Tells result (take n (drop a fields.now) ≡ take m (drop b fields.now)) }
-{
-    if n != m {
-        return false;
+impl Run {
+    // The fields of a record, among those of a table.
+    pub fn among(self, fields: &[Field]) -> &[Field]
+        requires { self.start + self.count ≤ length fields.now }
+        ensures { result.now ≡ held fields.now self }
+    {
+        let start = self.start as usize;
+        let end = start + self.count as usize;
+        &fields[start..end]
     }
-    for i in 0..n {
-        if !same_field(fields[a + i], fields[b + i]) {
-            return false;
-        }
-    }
-    true
 }
 
 // Whether two entries are of the same shape.
@@ -37,90 +26,83 @@ fn same_entry(fields: &[Field], x: Entry, y: Entry) -> bool
     ensures { Tells result (shape fields.now x ≡ shape fields.now y) }
 {
     match (x, y) {
-        (Entry::Unit, Entry::Unit) => true,
-        (Entry::Num, Entry::Num) => true,
-        (Entry::Truth, Entry::Truth) => true,
-        (Entry::Text, Entry::Text) => true,
-        (Entry::Bag(a), Entry::Bag(b)) => a == b,
-        (Entry::Either(a, b), Entry::Either(c, d)) => a == c && b == d,
-        (Entry::Record(a, n), Entry::Record(b, m)) => same_run(
-            fields, a as usize, n as usize, b as usize, m as usize,
-        ),
-        _ => false,
+        (Entry::Record(p), Entry::Record(q)) => p.among(fields) == q.among(fields),
+        _ => x == y,
     }
 }
 
-pub fn entry_at(t: &Table, i: usize) -> Entry
-    requires { i < length t.now.entries.items }
-    ensures { result ≡ slice_index_or t.now.entries.items i Entry.Unit }
-{
-    t.entries[i]
-}
+impl Table {
+    pub fn entry_at(&self, i: usize) -> Entry
+        requires { i < length self.now.entries.items }
+        ensures { result ≡ slice_index_or self.now.entries.items i Entry.Unit }
+    {
+        self.entries[i]
+    }
 
-pub fn field_at(t: &Table, i: usize) -> Field
-    requires { i < length t.now.fields.items }
-    ensures { result ≡ slice_index_or t.now.fields.items i no_such }
-{
-    t.fields[i]
-}
+    pub fn field_at(&self, i: usize) -> Field
+        requires { i < length self.now.fields.items }
+        ensures { result ≡ slice_index_or self.now.fields.items i no_such }
+    {
+        self.fields[i]
+    }
 
-// Where a shape stands in the table.
-fn find(t: &Table, e: Entry) -> Option<usize>
-    requires lies { (i : ℕ) → i < length t.now.entries.items → Lies (length t.now.fields.items) (slice_index_or t.now.entries.items i Entry.Unit) }
-    requires here { Lies (length t.now.fields.items) e }
-    ensures { Found t.now.fields.items t.now.entries.items e result }
-{
-    for i in 0..t.entries.len() {
-        let x = entry_at(t, i);
-        if same_entry(&t.fields, x, e) {
-            return Some(i);
+    // Where a shape stands in the table.
+    fn find(&self, e: Entry) -> Option<usize>
+        requires lies { (i : ℕ) → i < length self.now.entries.items → Lies (length self.now.fields.items) (slice_index_or self.now.entries.items i Entry.Unit) }
+        requires here { Lies (length self.now.fields.items) e }
+        ensures { Found self.now.fields.items self.now.entries.items e result }
+    {
+        for (i, x) in self.entries.iter().enumerate() {
+            if same_entry(&self.fields, *x, e) {
+                return Some(i);
+            }
+        }
+        None
+    }
+
+    // The number of a type that is no record.
+    pub fn plain(&mut self, e: Entry) -> u32
+        requires plain { Lies 0 e }
+        requires parts { Below self.old.names (length self.old.entries.items) (shape self.old.fields.items e) }
+        requires room { vec_len self.old.entries < 16400 }
+        ensures kept { Kept self.old self.new }
+        ensures made { Made self.old.names self.old.entries.items self.old.fields.items self.new.entries.items self.new.fields.items (shape self.old.fields.items e) 0 result }
+    {
+        match self.find(e) {
+            Some(i) => i as u32,
+            None => {
+                let r = self.entries.len() as u32;
+                self.entries.push_reserved(e);
+                r
+            }
         }
     }
-    None
-}
 
-// The number of a type that is no record.
-pub fn plain(t: &mut Table, e: Entry) -> u32
-    requires sound { Sound t.old.names t.old.entries.items t.old.fields.items }
-    requires plain { Lies 0 e }
-    requires parts { Below t.old.names (length t.old.entries.items) (shape t.old.fields.items e) }
-    requires room { vec_len t.old.entries < 16400 }
-    requires cap { 16400 ≤ vec_capacity t.old.entries }
-    ensures kept { Kept t.old t.new }
-    ensures made { Made t.old.names t.old.entries.items t.old.fields.items t.new.entries.items t.new.fields.items (shape t.old.fields.items e) 0 result }
-{
-    match find(t, e) {
-        Some(i) => i as u32,
-        None => {
-            let r = t.entries.len() as u32;
-            t.entries.push_reserved(e);
-            r
-        }
-    }
-}
-
-// The number of the record whose fields stand last. Where there is such a record already, they are cut off again.
-pub fn seal(t: &mut Table, start: usize) -> u32
-    requires start { start ≤ length t.old.fields.items }
-    requires sound { Sound t.old.names t.old.entries.items (take start t.old.fields.items) }
-    requires parts { Rising t.old.names (length t.old.entries.items) 0 (drop start t.old.fields.items) }
-    requires room { vec_len t.old.entries < 16400 }
-    requires cap { 16400 ≤ vec_capacity t.old.entries }
-    requires wide { vec_len t.old.fields ≤ 16793600 }
-    ensures kept { Kept t.old t.new }
-    ensures made { Made t.old.names t.old.entries.items (take start t.old.fields.items) t.new.entries.items t.new.fields.items (s_rec (drop start t.old.fields.items)) (length t.old.fields.items - start) result }
-{
-    let count = t.fields.len() - start;
-    let e = Entry::Record(start as u32, count as u32);
-    match find(t, e) {
-        Some(i) => {
-            t.fields.truncate(start);
-            i as u32
-        }
-        None => {
-            let r = t.entries.len() as u32;
-            t.entries.push_reserved(e);
-            r
+    // The number of the record whose fields stand last. Where there is such a record already, they are cut off again.
+    pub fn seal(&mut self, start: usize) -> u32
+        requires start { start ≤ length self.old.fields.items }
+        requires sound { Sound self.old.names self.old.entries.items (take start self.old.fields.items) }
+        requires parts { Rising self.old.names (length self.old.entries.items) 0 (drop start self.old.fields.items) }
+        requires room { vec_len self.old.entries < 16400 }
+        requires wide { vec_len self.old.fields ≤ 16793600 }
+        ensures kept { Kept self.old self.new }
+        ensures made { Made self.old.names self.old.entries.items (take start self.old.fields.items) self.new.entries.items self.new.fields.items (s_rec (drop start self.old.fields.items)) (length self.old.fields.items - start) result }
+    {
+        let count = self.fields.len() - start;
+        let e = Entry::Record(Run {
+            start: start as u32,
+            count: count as u32,
+        });
+        match self.find(e) {
+            Some(i) => {
+                self.fields.truncate(start);
+                i as u32
+            }
+            None => {
+                let r = self.entries.len() as u32;
+                self.entries.push_reserved(e);
+                r
+            }
         }
     }
 }

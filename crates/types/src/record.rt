@@ -1,152 +1,131 @@
 // Records in the table.
-ghost use Rattle.std.specs.Prelude.{◌≡◌, ℕ, ◌+◌, ◌-◌, ◌<◌, ◌≤◌, [], ◌∷◌, length, take, drop, vec_len, vec_capacity};
-ghost use Rattle.types.specs.Shapes.{Rising, s_rec};
-ghost use Rattle.types.specs.Tables.{Sound, Made, Kept, Open};
-ghost use Rattle.types.specs.Fields.{get_f, both_f, Stepped, listed, in_f, as_told, kept_f};
+ghost use Rattle.std.specs.Prelude.{◌≡◌, ◌+◌, ◌-◌, ◌<◌, ◌≤◌, [], ◌∷◌, length};
+ghost use Rattle.types.specs.Shapes.{held, Rising, s_rec};
+ghost use Rattle.types.specs.Tables.{Made};
+ghost use Rattle.types.specs.Outcomes.{Kept, Open};
+ghost use Rattle.types.specs.Fields.{get_f, both_f, FirstOf, NextOf, listed, kept_f};
 
-use crate::entry::{Field, Next};
-use crate::intern::{field_at, seal};
+use crate::entry::{Field, Next, Run};
 use crate::table::Table;
+use std::cmp::Ordering;
 
-// The number of the type under a name, among the fields from a place on.
-pub fn get(t: &Table, a: usize, n: usize, name: u32) -> Option<u32>
-    requires { a + n ≤ length t.now.fields.items }
-    ensures { listed result ≡ get_f name (take n (drop a t.now.fields.items)) }
+impl Next {
+    fn new(field: Field, first: u32, second: u32) -> Next
+        ensures { result ≡ record { field = field; first = first; second = second } }
+    {
+        Next {
+            field,
+            first,
+            second,
+        }
+    }
+}
+
+impl Run {
+    fn first(self, fields: &[Field]) -> Option<Field>
+        requires { self.start + self.count ≤ length fields.now }
+        ensures { FirstOf (held fields.now self) result }
+    {
+        self.among(fields).first().copied()
+    }
+
+    // All but so many fields at the front.
+    fn skip(self, k: u32) -> Run
+        requires some { k ≤ self.count }
+        requires fits { self.start + self.count < 4294967296 }
+        ensures start { result.start ≡ self.start + k }
+        ensures count { result.count ≡ self.count - k }
+    {
+        Run {
+            start: self.start + k,
+            count: self.count - k,
+        }
+    }
+}
+
+// The number of the type under a name, among some fields.
+pub fn get(fields: &[Field], name: u32) -> Option<u32>
+    ensures { listed result ≡ get_f name fields.now }
 {
-    for i in 0..n {
-        let f = field_at(t, a + i);
-        if name == f.name {
+    for f in fields {
+        if f.name == name {
             return Some(f.of);
         }
     }
     None
 }
 
-// A record of one field.
-pub fn single(t: &mut Table, name: u32, of: u32) -> u32
-    requires sound { Sound t.old.names t.old.entries.items t.old.fields.items }
-    requires name { name < t.old.names }
-    requires within { of < length t.old.entries.items }
-    requires spare { Open t.old 1 }
-    ensures kept { Kept t.old t.new }
-    ensures made { Made t.old.names t.old.entries.items t.old.fields.items t.new.entries.items t.new.fields.items (s_rec (record { name = name; of = of } ∷ [])) 1 result }
-{
-    let start = t.fields.len();
-    t.fields.push_reserved(Field { name, of });
-    seal(t, start)
-}
+impl Table {
+    // A record of one field.
+    pub fn single(&mut self, name: u32, of: u32) -> u32
+        requires name { name < self.old.names }
+        requires within { of < length self.old.entries.items }
+        requires spare { Open self.old 1 }
+        ensures kept { Kept self.old self.new }
+        ensures made { Made self.old.names self.old.entries.items self.old.fields.items self.new.entries.items self.new.fields.items (s_rec (record { name = name; of = of } ∷ [])) 1 result }
+    {
+        let start = self.fields.len();
+        self.fields.push_reserved(Field { name, of });
+        self.seal(start)
+    }
 
-// The next field of two records in one: the second's where both have one of a name.
-fn next(t: &Table, a: usize, n: usize, b: usize, m: usize) -> Next
-    requires some { 0 < n + m }
-    requires first { a + n ≤ length t.now.fields.items }
-    requires second { b + m ≤ length t.now.fields.items }
-    requires rises { Rising t.now.names (length t.now.entries.items) 0 (take n (drop a t.now.fields.items)) }
-    requires rising { Rising t.now.names (length t.now.entries.items) 0 (take m (drop b t.now.fields.items)) }
-    ensures { Stepped (take n (drop a t.now.fields.items)) (take m (drop b t.now.fields.items)) result }
-{
-    if m == 0 {
-        return Next {
-            field: field_at(t, a),
-            first: 1,
-            second: 0,
-        };
-    }
-    let y = field_at(t, b);
-    if n == 0 {
-        return Next {
-            field: y,
-            first: 0,
-            second: 1,
-        };
-    }
-    let x = field_at(t, a);
-    if x.name < y.name {
-        return Next {
-            field: x,
-            first: 1,
-            second: 0,
-        };
-    }
-    if x.name == y.name {
-        return Next {
-            field: y,
-            first: 1,
-            second: 1,
-        };
-    }
-    Next {
-        field: y,
-        first: 0,
-        second: 1,
-    }
-}
-
-// Two records in one.
-pub fn both(t: &mut Table, a: usize, n: usize, b: usize, m: usize) -> u32
-    requires sound { Sound t.old.names t.old.entries.items t.old.fields.items }
-    requires first { a + n ≤ length t.old.fields.items }
-    requires second { b + m ≤ length t.old.fields.items }
-    requires rises { Rising t.old.names (length t.old.entries.items) 0 (take n (drop a t.old.fields.items)) }
-    requires rising { Rising t.old.names (length t.old.entries.items) 0 (take m (drop b t.old.fields.items)) }
-    requires spare { Open t.old t.old.names }
-    ensures kept { Kept t.old t.new }
-    ensures made { Made t.old.names t.old.entries.items t.old.fields.items t.new.entries.items t.new.fields.items (s_rec (both_f (take n (drop a t.old.fields.items)) (take m (drop b t.old.fields.items)))) t.old.names result }
-{
-    let start = t.fields.len();
-    let mut a = a;
-    let mut n = n;
-    let mut b = b;
-    let mut m = m;
-    while n > 0 || m > 0 {
-        let x = next(t, a, n, b, m);
-        t.fields.push_reserved(x.field);
-        a += x.first;
-        n -= x.first;
-        b += x.second;
-        m -= x.second;
-    }
-    seal(t, start)
-}
-
-// Whether a name is among some.
-fn is_in(names: &[u32], name: u32) -> bool
-    ensures { result ≡ in_f name names.now }
-{
-    for x in names {
-        if *x == name {
-            return true;
+    // The next field of two records in one, if there is one: the second's where both have one of a name.
+    fn next(&self, p: Run, q: Run) -> Option<Next>
+        requires first { p.start + p.count ≤ length self.now.fields.items }
+        requires second { q.start + q.count ≤ length self.now.fields.items }
+        requires rises { Rising self.now.names (length self.now.entries.items) 0 (held self.now.fields.items p) }
+        requires rising { Rising self.now.names (length self.now.entries.items) 0 (held self.now.fields.items q) }
+        ensures { NextOf (held self.now.fields.items p) (held self.now.fields.items q) result }
+    {
+        match (p.first(&self.fields), q.first(&self.fields)) {
+            (None, None) => None,
+            (Some(x), None) => Some(Next::new(x, 1, 0)),
+            (None, Some(y)) => Some(Next::new(y, 0, 1)),
+            (Some(x), Some(y)) => match x.name.cmp(&y.name) {
+                Ordering::Less => Some(Next::new(x, 1, 0)),
+                Ordering::Equal => Some(Next::new(y, 1, 1)),
+                Ordering::Greater => Some(Next::new(y, 0, 1)),
+            },
         }
     }
-    false
-}
 
-// Whether a field stays: its name is among some, or it is not, as is asked for.
-fn stays(names: &[u32], keep: bool, name: u32) -> bool
-    ensures { result ≡ as_told keep (in_f name names.now) }
-{
-    if keep {
-        is_in(names, name)
-    } else {
-        !is_in(names, name)
-    }
-}
-
-// The fields of a record whose names are among some, or those whose names are not.
-pub fn kept(t: &mut Table, a: usize, n: usize, names: &[u32], keep: bool) -> u32
-    requires sound { Sound t.old.names t.old.entries.items t.old.fields.items }
-    requires lies { a + n ≤ length t.old.fields.items }
-    requires rises { Rising t.old.names (length t.old.entries.items) 0 (take n (drop a t.old.fields.items)) }
-    requires spare { Open t.old t.old.names }
-    ensures kept { Kept t.old t.new }
-    ensures made { Made t.old.names t.old.entries.items t.old.fields.items t.new.entries.items t.new.fields.items (s_rec (kept_f names.now keep (take n (drop a t.old.fields.items)))) t.old.names result }
-{
-    let start = t.fields.len();
-    for i in 0..n {
-        let f = field_at(t, a + i);
-        if stays(names, keep, f.name) {
-            t.fields.push_reserved(f);
+    // Two records in one.
+    pub fn both(&mut self, p: Run, q: Run) -> u32
+        requires first { p.start + p.count ≤ length self.old.fields.items }
+        requires second { q.start + q.count ≤ length self.old.fields.items }
+        requires rises { Rising self.old.names (length self.old.entries.items) 0 (held self.old.fields.items p) }
+        requires rising { Rising self.old.names (length self.old.entries.items) 0 (held self.old.fields.items q) }
+        requires spare { Open self.old self.old.names }
+        ensures kept { Kept self.old self.new }
+        ensures made { Made self.old.names self.old.entries.items self.old.fields.items self.new.entries.items self.new.fields.items (s_rec (both_f (held self.old.fields.items p) (held self.old.fields.items q))) self.old.names result }
+    {
+        let start = self.fields.len();
+        let (mut p, mut q) = (p, q);
+        while let Some(next) = self.next(p, q) {
+            self.fields.push_reserved(next.field);
+            p = p.skip(next.first);
+            q = q.skip(next.second);
         }
+        self.seal(start)
     }
-    seal(t, start)
+
+    // The fields of a record whose names are among some, or those whose names are not.
+    pub fn kept(&mut self, p: Run, names: &[u32], keep: bool) -> u32
+        requires lies { p.start + p.count ≤ length self.old.fields.items }
+        requires rises { Rising self.old.names (length self.old.entries.items) 0 (held self.old.fields.items p) }
+        requires spare { Open self.old self.old.names }
+        ensures kept { Kept self.old self.new }
+        ensures made { Made self.old.names self.old.entries.items self.old.fields.items self.new.entries.items self.new.fields.items (s_rec (kept_f names.now keep (held self.old.fields.items p))) self.old.names result }
+    {
+        let start = self.fields.len();
+        let from = p.start as usize;
+        // By numbers, since fields are pushed on the vector that these stand in.
+        for i in 0..p.count as usize {
+            let f = self.field_at(from + i);
+            if names.contains(&f.name) == keep {
+                self.fields.push_reserved(f);
+            }
+        }
+        self.seal(start)
+    }
 }

@@ -1,5 +1,14 @@
 // A table in which each type stands once.
+ghost use Rattle.std.specs.Prelude.{◌≤◌, vec_capacity};
+ghost use Rattle.types.specs.Tables.{Sound};
+ghost use Rattle.types.specs.Once.{sound_prop};
+
 use crate::entry::{Entry, Field};
+
+// How many types a table has room for, and how many fields of records.
+pub const MOST_TYPES: usize = 16400;
+
+pub const MOST_FIELDS: usize = 16793600;
 
 #[derive(Drop)]
 pub struct Table {
@@ -7,4 +16,8 @@ pub struct Table {
     pub names: usize,
     pub entries: Vec<Entry>,
     pub fields: Vec<Field>,
+    // each type stands once, after its parts
+    pub ghost sound: { Sound names entries.items fields.items } by { sound_prop names entries.items fields.items },
+    pub ghost types_fit: { 16400 ≤ vec_capacity entries },
+    pub ghost fields_fit: { 16793600 ≤ vec_capacity fields },
 }

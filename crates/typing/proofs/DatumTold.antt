@@ -10,7 +10,7 @@ use Rattle.format.specs.Lists.{from, from_drop}
 use Rattle.of_type.specs.Told.{IsOfTold}
 use Rattle.ranks.specs.Ranks.{names_of}
 use Rattle.ranks.specs.declared.names.Names.{Names}
-use Rattle.ranks.proofs.Placed.{after_front, front_within}
+use Rattle.ranks.specs.Placed.{after_front, front_within}
 use Rattle.types.specs.Shapes.{type_at}
 use Rattle.types.specs.Operators.{matched_ty}
 use Rattle.types.specs.Outcomes.{look, Meant}

@@ -1,5 +1,5 @@
 -- The heads of types, noted from the front.
-use Rattle.std.proofs.Common.{◌≡◌, ℕ, zero, suc, ◌+◌, ◌-◌, ◌*◌, ◌^◌, ◌<◌, ◌≤◌, true, false, ◌⊎◌, List, [], ◌∷◌, ◌++◌, length, get_or, drop, sym, refl, ap, ◌∙◌, subst, ap₂, inl, inr, add-zero, add-one, arith, length-append}
+use Rattle.std.proofs.Common.{Some, None, ◌≡◌, ℕ, zero, suc, ◌+◌, ◌-◌, ◌*◌, ◌^◌, ◌<◌, ◌≤◌, ◌⊎◌, List, [], ◌∷◌, ◌++◌, length, get_or, drop, sym, refl, ap, ◌∙◌, subst, ap₂, inl, inr, add-zero, add-one, arith, length-append}
 use Rattle.std.proofs.lemmas.List.{get_or_append_left, get_or_at}
 use Rattle.query.specs.Query.{Ty, a_unit, a_num, a_truth, a_text, a_bag, a_rec, an_either, Tys, no_ty, ty}
 use Rattle.query.specs.Size.{size_t, size_ts}
@@ -13,8 +13,8 @@ use Rattle.format.specs.Lists.{from}
 use Rattle.format.proofs.Pairs.{written_length}
 use Rattle.format.specs.Trees.{fits_append, node_opened}
 use Rattle.format.specs.TypeLaws.{ty_laws}
-use Rattle.ranks.proofs.Placed.{read_same, read_within, not_stuck, after_front}
-use Rattle.ranks.proofs.TypeHeads.{head_ty, kids_ty, listed_tys, kids_many, head_fits, kids_fit, forest}
+use Rattle.ranks.specs.Placed.{read_same, read_within, not_stuck, after_front}
+use Rattle.ranks.specs.TypeHeads.{head_ty, kids_ty, listed_tys, kids_many, head_fits, kids_fit, forest}
 use Rattle.typing.specs.Loads.{opened, head_long, walk, place, sizes, Walked, Headed}
 
 -- a type is larger than its parts
@@ -102,7 +102,7 @@ last_or : (n i : ℕ) → i < n + 1 → (i < n) ⊎ (n ≡ i)
 last_or n i h = grind arith
 
 module _ (xs : List ℕ) (at count : ℕ) (hs : List ℕ) (k pos : ℕ) (h : 0 < k) (g : Noting xs at count hs k pos) where
-  pub noting_stuck : (p : ℕ) → Stuck ty_heads (from pos xs) p → Headed xs hs at count false
+  pub noting_stuck : (p : ℕ) → Stuck ty_heads (from pos xs) p → Headed xs hs at count None
   noting_stuck p s = record { lie = g.lie; walked = λ ts rest f m q z. absurd (none ts rest f q (g.walked ts rest f m q z)) }
     where
       on : (us : List Ty) (rest : List ℕ) → AllFit types us → length us ≡ k → drop pos xs ≡ writes types us ++ rest → ⊥
@@ -113,7 +113,7 @@ module _ (xs : List ℕ) (at count : ℕ) (hs : List ℕ) (k pos : ℕ) (h : 0 <
       none ts rest f q w = on (walk ts (length hs)) rest (walk_fits ts (length hs) f) (sym w.2) (ap (λ z. drop z xs) w.1 ∙ walk_stands xs at ts rest q (length hs))
 
   -- there is always room
-  pub noting_full : 8200 ≤ length hs → Headed xs hs at count false
+  pub noting_full : 8200 ≤ length hs → Headed xs hs at count None
   noting_full l = record { lie = g.lie; walked = λ ts rest f m q z. absurd (let w = g.walked ts rest f m q z in omega (arith, walk_sizes ts (length hs) w.0.some)) }
 
   module _ (node : TypeNode) (parts e : ℕ) (r : NodeRead ty_heads ty_arity TellsType (from pos xs) node parts e) where
@@ -170,7 +170,7 @@ module _ (xs : List ℕ) (at count : ℕ) (hs : List ℕ) (k pos : ℕ) (h : 0 <
               s.1 ∙ (walk_on ts n ∙ ap (λ z. length (walk ts z)) (sym l1)),
             )
 
-pub noting_end : (xs : List ℕ) (at count : ℕ) (hs : List ℕ) (k pos : ℕ) → k ≤ 0 → Noting xs at count hs k pos → Headed xs hs at count true
+pub noting_end : (xs : List ℕ) (at count : ℕ) (hs : List ℕ) (k pos : ℕ) → k ≤ 0 → Noting xs at count hs k pos → Headed xs hs at count (Some tt)
 noting_end xs at count hs k pos h g = record { lie = g.lie; walked = λ ts rest f m q z. let w = g.walked ts rest f m q z in (refl, w.0, none (walk ts (length hs)) (omega (arith, w.2))) }
   where
     none : (us : List Ty) → length us ≡ 0 → us ≡ []

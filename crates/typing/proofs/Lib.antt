@@ -1,4 +1,6 @@
 pub mod HeadNotes
+pub mod Stacks
+pub mod Results
 pub mod RankReads
 pub mod TypeMade
 pub mod Loading

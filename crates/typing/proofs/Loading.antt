@@ -1,7 +1,6 @@
 -- Types made from the back, head by head.
-use Rattle.std.proofs.Common.{◌≡◌, ℕ, zero, suc, ◌+◌, ◌-◌, ◌<◌, ◌≤◌, Bool, true, false, ◌&&◌, ◌⊎◌, List, [], ◌∷◌, ◌++◌, length, get_or, drop, set, Some, None, vec_items, Option, sym, refl, ap, ◌∙◌, subst, ap₂, inl, inr, add-one, arith, length-append, length-drop, length-set, drop-drop}
-use mathlib.Core.Bool.{false≢true}
-use Rattle.std.proofs.lemmas.List.{drop_all, get_or_append_left, get_or_at}
+use Rattle.std.proofs.Common.{◌≡◌, ℕ, zero, suc, ◌+◌, ◌<◌, ◌≤◌, Bool, true, false, ◌&&◌, ◌⊎◌, List, [], ◌∷◌, ◌++◌, length, get_or, drop, Some, None, Option, sym, refl, ap, ◌∙◌, subst, ap₂, inl, inr, add-one, arith, length-append}
+use Rattle.std.proofs.lemmas.List.{get_or_append_left, get_or_at}
 use Rattle.query.specs.Data.{Name, less_text}
 use Rattle.query.specs.Query.{Ty, a_unit, a_num, a_truth, a_text, a_bag, a_rec, an_either, Tys, no_ty, ty}
 use Rattle.query.specs.Types.{sound, sounds, first_after, if_so}
@@ -17,14 +16,15 @@ use Rattle.format.specs.TypeLaws.{ty_laws}
 use Rattle.ranks.specs.Ranks.{names_of}
 use Rattle.ranks.specs.Known.{AllIn, head_names, KnowsAll, names_t, names_ts, names_all}
 use Rattle.ranks.specs.declared.names.Names.{Names}
-use Rattle.ranks.proofs.Placed.{read_same, not_stuck}
-use Rattle.ranks.proofs.TypeHeads.{head_ty, kids_ty, listed_tys, kids_many, head_fits, forest, kids_names, names_append, ty_knows, join_knows}
+use Rattle.ranks.specs.Placed.{read_same, not_stuck}
+use Rattle.ranks.specs.TypeHeads.{head_ty, kids_ty, listed_tys, kids_many, head_fits, forest, kids_names, names_append, ty_knows, join_knows}
 use Rattle.types.specs.Shapes.{Shape}
 use Rattle.types.specs.Operators.{NamesOf, types_of}
 use Rattle.types.specs.Outcomes.{look, size, spread, Tidy, Room, Grew, Meant}
 use Rattle.types.specs.declared.table.Table.{Table}
 use Rattle.types.proofs.Meanings.{size_grows, kept_at, grew_two, grew_at, stay}
-use Rattle.typing.specs.Loads.{opened, walk, place, sizes, Walked, Headed, name_first, names_rise, head_sound, TypeMade, Fit, Placed, Loaded}
+use Rattle.typing.specs.Loads.{opened, walk, place, sizes, Walked, Headed, name_first, names_rise, head_sound, TypeMade, Fit, Loaded}
+use Rattle.typing.specs.Stacks.{Put}
 use Rattle.typing.specs.declared.work.Work.{Work}
 use Rattle.typing.proofs.HeadNotes.{walk_sizes, length_sizes, walk_fits, walk_stands}
 use Rattle.typing.proofs.TypeMade.{types_length}
@@ -154,60 +154,27 @@ numbers_drop m (suc k) [] l = tt
 numbers_drop m (suc k) (x ∷ xs) l = numbers_drop m k xs l.1
 
 -- while types are made
-pub record SoFar (ns : List Name) (t u : Table) (st : List ℕ) (top : ℕ) (hs : List ℕ) (at : ℕ) (ts : List Ty) : Type 0 where
+pub record SoFar (ns : List Name) (t u : Table) (st : List ℕ) (hs : List ℕ) (at : ℕ) (ts : List Ty) : Type 0 where
   pub walked : Walked ts at hs
   pub few : size u + length hs ≤ size t + sizes ts
   pub slim : spread u ≤ spread t + names_all (walk ts (length hs))
-  pub is : types_of ns (look u) (drop top st) ≡ walk ts (length hs)
+  pub is : types_of ns (look u) st ≡ walk ts (length hs)
   pub sound : all_sound (walk ts (length hs)) ≡ true
 
-pub record Making (xs : List ℕ) (v : Names) (t u : Table) (st : List ℕ) (top : ℕ) (hs : List ℕ) (at count : ℕ) : Type 0 where
+pub record Making (xs : List ℕ) (v : Names) (t u : Table) (st : List ℕ) (hs : List ℕ) (at count : ℕ) : Type 0 where
   pub grew : Grew t u None
-  pub top_in : top ≤ 8200
-  pub long : length st ≡ 8200
-  pub numbers : NamesOf (size u) (drop top st)
+  pub short : length st ≤ 8200
+  pub numbers : NamesOf (size u) st
   pub lie : (i : ℕ) → i < length hs → get_or hs i 0 ≤ length xs
-  pub told : (ts : List Ty) (rest : List ℕ) → AllFit types ts → length ts ≡ count → drop at xs ≡ writes types ts ++ rest → KnowsAll (names_of xs v) ts → sizes ts ≤ 8192 → Room t (sizes ts) (names_all ts) → SoFar (names_of xs v) t u st top hs at ts
-
-set_drop : (xs : List ℕ) (k x : ℕ) → k < length xs → drop k (set xs k x) ≡ x ∷ drop (suc k) xs
-set_drop [] k x h = absurd (omega arith)
-set_drop (y ∷ xs) zero x h = refl
-set_drop (y ∷ xs) (suc k) x h = set_drop xs k x (omega arith)
-
-pub placed : (st : List ℕ) (top parts x : ℕ) → length st ≡ 8200 → parts ≤ 8200 - top → (top + parts ≡ 0 → ⊥) → top ≤ 8200 → Placed st (set st (top + parts - 1) x) top parts x (Some (top + parts - 1))
-placed st top parts x l h n t = record {
-  long = length-set st (top + parts - 1) x ∙ l;
-  none = λ e. let z : ◌≡◌ {A = ℕ} 0 1 = cc in absurd (omega arith);
-  some = λ k e. let q : top + parts - 1 ≡ k = cc in (
-    omega arith,
-    omega arith,
-    subst (λ z. drop z (set st (top + parts - 1) x) ≡ x ∷ drop (top + parts) st) q
-        (set_drop st (top + parts - 1) x (omega arith) ∙ ap (λ z. x ∷ drop z st) (back (top + parts) n)),
-  );
-}
-  where
-    back : (m : ℕ) → (m ≡ 0 → ⊥) → suc (m - 1) ≡ m
-    back m h = grind arith
-
-pub placed_none : (st : List ℕ) (top parts x : ℕ) → length st ≡ 8200 → (8200 < top + parts) ⊎ (top + parts ≡ 0) → Placed st st top parts x None
-placed_none st top parts x l h = record { long = l; none = λ e. h; some = λ k e. let z : ◌≡◌ {A = ℕ} 0 1 = cc in absurd (omega arith) }
+  pub told : (ts : List Ty) (rest : List ℕ) → AllFit types ts → length ts ≡ count → drop at xs ≡ writes types ts ++ rest → KnowsAll (names_of xs v) ts → sizes ts ≤ 8192 → Room t (sizes ts) (names_all ts) → SoFar (names_of xs v) t u st hs at ts
 
 -- the beginning
-module _ (xs : List ℕ) (v : Names) (t : Table) (w : Work) (at count : ℕ) (s : Tidy t) (f : Fit w) where
-  pub making_none : (hs : List ℕ) → Headed xs hs at count false → Loaded xs v t t w at count None
-  making_none hs h = record {
-    grew = stay None s tt;
-    fit = f;
-    numbers = tt;
-    told = λ ts rest a m q k z o. absurd (false≢true (h.walked ts rest a m q z).0);
-  }
-
-  pub making_begin : (hs : List ℕ) → Headed xs hs at count true → Making xs v t t (vec_items w.stack) 8200 hs at count
+module _ (xs : List ℕ) (v : Names) (t : Table) (at count : ℕ) (s : Tidy t) where
+  pub making_begin : (hs : List ℕ) → Headed xs hs at count (Some tt) → (st : List ℕ) → st ≡ [] → Making xs v t t st hs at count
   unfolding NamesOf types_of names_all all_sound sizes
-  making_begin hs h = record {
+  making_begin hs h st none = record {
     grew = stay None s tt;
-    top_in = omega arith;
-    long = f.stack;
+    short = let l = ap (λ (z : List ℕ). length z) none in omega arith;
     numbers = subst (λ (z : List ℕ). NamesOf (size t) z) (sym none) tt;
     lie = h.lie;
     told = λ ts rest a m q k z o.
@@ -221,9 +188,6 @@ module _ (xs : List ℕ) (v : Names) (t : Table) (w : Work) (at count : ℕ) (s 
           sound = ap all_sound d.2;
         };
   }
-    where
-      none : drop 8200 (vec_items w.stack) ≡ []
-      none = drop_all 8200 (vec_items w.stack) (omega (arith, f.stack))
 
 -- a list of one, or none
 not_so : (b : Bool) (y : Ty) → if_so b (y ∷ []) ≡ [] → b ≡ false
@@ -287,7 +251,7 @@ pub record Here (xs : List ℕ) (v : Names) (t u : Table) (nums : List ℕ) (at 
   pub wide : spread u + length (head_names (head_ty y)) ≤ spread t + names_all (walk ts (length gs))
   pub small : length (kids_ty y ++ vs) ≤ 8192
 
-module _ (xs : List ℕ) (v : Names) (t u : Table) (st : List ℕ) (top : ℕ) (hs gs : List ℕ) (at count p : ℕ) (e : hs ≡ gs ++ (p ∷ [])) (g : Making xs v t u st top hs at count) where
+module _ (xs : List ℕ) (v : Names) (t u : Table) (st : List ℕ) (hs gs : List ℕ) (at count p : ℕ) (e : hs ≡ gs ++ (p ∷ [])) (g : Making xs v t u st hs at count) where
   sg : (length hs ≡ length gs + 1) × (get_or hs (length gs) 0 ≡ p) × ((i : ℕ) → i < length gs → get_or gs i 0 ≡ get_or hs i 0)
   sg = snoc_get hs gs p e
 
@@ -297,20 +261,20 @@ module _ (xs : List ℕ) (v : Names) (t u : Table) (st : List ℕ) (top : ℕ) (
   abbrev Case : List Ty → List ℕ → Type 0
   Case ts rest = AllFit types ts × (length ts ≡ count) × (drop at xs ≡ writes types ts ++ rest) × KnowsAll (names_of xs v) ts × (sizes ts ≤ 8192) × Room t (sizes ts) (names_all ts)
 
-  so_far : (ts : List Ty) (rest : List ℕ) → Case ts rest → SoFar (names_of xs v) t u st top hs at ts
+  so_far : (ts : List Ty) (rest : List ℕ) → Case ts rest → SoFar (names_of xs v) t u st hs at ts
   so_far ts rest c = g.told ts rest c.0 c.1 c.2 c.3 c.4 c.5
 
-  here : (ts : List Ty) (rest : List ℕ) → Case ts rest → Here xs v t u (drop top st) at p gs ts
+  here : (ts : List Ty) (rest : List ℕ) → Case ts rest → Here xs v t u st at p gs ts
   unfolding walk
   here ts rest c = on (walk ts (length gs)) refl
     where
-      d : SoFar (names_of xs v) t u st top hs at ts
+      d : SoFar (names_of xs v) t u st hs at ts
       d = so_far ts rest c
 
       n : ℕ
       n = length gs
 
-      on : (us : List Ty) → walk ts n ≡ us → Here xs v t u (drop top st) at p gs ts
+      on : (us : List Ty) → walk ts n ≡ us → Here xs v t u st at p gs ts
       on [] q = absurd (omega (arith, d.walked.some n (omega (arith, sg.0)), ap (λ (z : List Ty). length z) q))
       on (y ∷ vs) q =
           let w : walk ts (length hs) ≡ kids_ty y ++ vs = ap (λ z. walk ts z) (sg.0 ∙ add-one n) ∙ opened_is y vs (walk ts n) q in
@@ -352,16 +316,16 @@ module _ (xs : List ℕ) (v : Names) (t u : Table) (st : List ℕ) (top : ℕ) (
   }
 
   module _ (node : TypeNode) (parts el : ℕ) (r : NodeRead ty_heads ty_arity TellsType (from p xs) node parts el) where
-    head_same : (ts : List Ty) → (h : Here xs v t u (drop top st) at p gs ts) → r.thing ≡ head_ty h.y
+    head_same : (ts : List Ty) → (h : Here xs v t u st at p gs ts) → r.thing ≡ head_ty h.y
     head_same ts h = read_same ty_heads ty_laws.one_way xs p el r.thing (head_ty h.y) h.rest making_lies h.fits h.there r.begins
 
-    meant : (u2 : Table) (x : Option ℕ) → TypeMade xs v u u2 (drop top st) p node x → (ts : List Ty) → (h : Here xs v t u (drop top st) at p gs ts) → Meant (names_of xs v) u u2 1 (length (head_names (head_ty h.y))) x (if_so (head_sound h.y) (h.y ∷ []))
+    meant : (u2 : Table) (x : Option ℕ) → TypeMade xs v u u2 st p node x → (ts : List Ty) → (h : Here xs v t u st at p gs ts) → Meant (names_of xs v) u u2 1 (length (head_names (head_ty h.y))) x (if_so (head_sound h.y) (h.y ∷ []))
     meant u2 x tm ts h = tm h.y h.vs h.rest (subst (λ z. TellsType node z) (head_same ts h) r.says.0) h.fits h.there h.known h.some h.kids
 
-    many : (ts : List Ty) → (h : Here xs v t u (drop top st) at p gs ts) → parts ≡ length (kids_ty h.y)
+    many : (ts : List Ty) → (h : Here xs v t u st at p gs ts) → parts ≡ length (kids_ty h.y)
     many ts h = r.says.1 ∙ (ap ty_arity (head_same ts h) ∙ sym (kids_many h.y))
 
-    pub making_unmade : (u2 : Table) (w : Work) → Fit w → Grew u u2 None → TypeMade xs v u u2 (drop top st) p node None → Loaded xs v t u2 w at count None
+    pub making_unmade : (u2 : Table) (w : Work) → Fit w → Grew u u2 None → TypeMade xs v u u2 st p node None → Loaded xs v t u2 w at count None
     making_unmade u2 w f g2 tm = record {
       grew = grew_two g.grew g2;
       fit = f;
@@ -379,7 +343,7 @@ module _ (xs : List ℕ) (v : Names) (t u : Table) (st : List ℕ) (top : ℕ) (
           };
     }
 
-    pub making_full : (u2 : Table) (w : Work) (x : ℕ) → Fit w → Grew u u2 (Some x) → (8200 < top + parts) ⊎ (top + parts ≡ 0) → Loaded xs v t u2 w at count None
+    pub making_full : (u2 : Table) (w : Work) (x : ℕ) → Fit w → Grew u u2 (Some x) → (length st < parts) ⊎ ((length st ≡ 8200) × (parts ≡ 0)) → Loaded xs v t u2 w at count None
     making_full u2 w x f g2 full = record {
       grew = grew_two g.grew (grew_at g2 None tt);
       fit = f;
@@ -387,28 +351,23 @@ module _ (xs : List ℕ) (v : Names) (t u : Table) (st : List ℕ) (top : ℕ) (
       told = λ ts rest a m q kn z o. absurd (no_way ts (here ts rest (a, m, q, kn, z, o)));
     }
       where
-        no_way : (ts : List Ty) → Here xs v t u (drop top st) at p gs ts → ⊥
+        no_way : (ts : List Ty) → Here xs v t u st at p gs ts → ⊥
         no_way ts h =
             let l = ap (λ (z : List Ty). length z) h.kids in
-            let l2 = types_length (names_of xs v) (look u) (drop top st) in
-            let l3 = length-drop top st in
+            let l2 = types_length (names_of xs v) (look u) st in
             let l4 = length-append (kids_ty h.y) h.vs in
             let l5 = many ts h in
-            let l6 = g.long in
-            let l7 = g.top_in in
-            elim full [ inl b ↦ omega arith | inr b ↦ omega (arith, h.small) ]
+            elim full [ inl b ↦ omega arith | inr b ↦ omega (arith, b.0, b.1, h.small) ]
 
-    pub making_on : (u2 : Table) (x k : ℕ) (su : List ℕ) → Grew u u2 (Some x) → TypeMade xs v u u2 (drop top st) p node (Some x) → Placed st su top parts x (Some k) → Making xs v t u2 su k gs at count
+    pub making_on : (u2 : Table) (x : ℕ) (su : List ℕ) → Grew u u2 (Some x) → TypeMade xs v u u2 st p node (Some x) → Put st su parts x (Some tt) → Making xs v t u2 su gs at count
     unfolding NamesOf types_of
-    making_on u2 x k su g2 tm pl =
-        let o = pl.some k refl in
-        let dd : drop (top + parts) st ≡ drop parts (drop top st) = sym (drop-drop parts top st) in
-        let old : NamesOf (size u) (drop (top + parts) st) = subst (λ (z : List ℕ). NamesOf (size u) z) (sym dd) (numbers_drop (size u) parts (drop top st) g.numbers) in
+    making_on u2 x su g2 tm pl =
+        let o = pl.some refl in
+        let old : NamesOf (size u) (drop parts st) = numbers_drop (size u) parts st g.numbers in
         record {
           grew = grew_two g.grew (grew_at g2 None tt);
-          top_in = omega (arith, o.0);
-          long = pl.long;
-          numbers = subst (λ (z : List ℕ). NamesOf (size u2) z) (sym o.2) (g2.here, numbers_kept (size u) (size u2) _ (size_grows u u2 g2.grown) old);
+          short = pl.few;
+          numbers = subst (λ (z : List ℕ). NamesOf (size u2) z) (sym o.1) (g2.here, numbers_kept (size u) (size u2) _ (size_grows u u2 g2.grown) old);
           lie = λ i h. subst (λ z. z ≤ length xs) (sym (sg.2 i h)) (g.lie i (omega (arith, sg.0)));
           told = λ ts rest a m q kn z oo.
               let h = here ts rest (a, m, q, kn, z, oo) in
@@ -416,28 +375,26 @@ module _ (xs : List ℕ) (v : Names) (t u : Table) (st : List ℕ) (top : ℕ) (
               let yes = so_it_is (head_sound h.y) h.y _ (mt.means h.room) in
               let fw = mt.few h.room in
               let sl = mt.slim h.room in
-              let tl : types_of (names_of xs v) (look u2) (drop (top + parts) st) ≡ h.vs =
-              types_kept (names_of xs v) g2 (drop (top + parts) st) old
-              ∙ (ap (λ (y : List ℕ). types_of (names_of xs v) (look u) y) dd
-              ∙ (types_drop (names_of xs v) (look u) parts (drop top st) ∙ (ap (λ (y : List Ty). drop parts y) h.kids ∙ drop_front (kids_ty h.y) h.vs parts (many ts h)))) in
+              let tl : types_of (names_of xs v) (look u2) (drop parts st) ≡ h.vs =
+              types_kept (names_of xs v) g2 (drop parts st) old ∙ (types_drop (names_of xs v) (look u) parts st ∙ (ap (λ (y : List Ty). drop parts y) h.kids ∙ drop_front (kids_ty h.y) h.vs parts (many ts h))) in
               record {
                 walked = h.walked;
                 few = omega (arith, h.few);
                 slim = omega (arith, h.wide);
-                is = ap (λ (y : List ℕ). types_of (names_of xs v) (look u2) y) o.2 ∙ (ap₂ (λ (a : Ty) (b : List Ty). a ∷ b) (sym yes.1) tl ∙ sym h.is);
+                is = ap (λ (y : List ℕ). types_of (names_of xs v) (look u2) y) o.1 ∙ (ap₂ (λ (a : Ty) (b : List Ty). a ∷ b) (sym yes.1) tl ∙ sym h.is);
                 sound = ap all_sound h.is ∙ (sound_open h.y h.vs ∙ ap₂ (λ (a b : Bool). a && b) yes.0 h.sound);
               };
         }
 
-pub making_end : (xs : List ℕ) (v : Names) (t u : Table) (w : Work) (top : ℕ) (hs : List ℕ) (at count : ℕ) → hs ≡ [] → Fit w → Making xs v t u (vec_items w.stack) top hs at count → Loaded xs v t u w at count (Some top)
+pub making_end : (xs : List ℕ) (v : Names) (t u : Table) (w : Work) (hs : List ℕ) (at count : ℕ) → hs ≡ [] → Fit w → Making xs v t u w.stack hs at count → Loaded xs v t u w at count (Some tt)
 unfolding walk
-making_end xs v t u w top [] at count e f g = record {
+making_end xs v t u w [] at count e f g = record {
   grew = g.grew;
   fit = f;
-  numbers = (g.top_in, g.numbers);
+  numbers = g.numbers;
   told = λ ts rest a m q kn z o. let d = g.told ts rest a m q kn z o in record { few = omega (arith, d.few); slim = d.slim; says = (d.sound, d.is) };
 }
-making_end xs v t u w top (h ∷ hs) at count e f g = let z : ◌≡◌ {A = ℕ} 0 1 = cc in absurd (omega arith)
+making_end xs v t u w (h ∷ hs) at count e f g = let z : ◌≡◌ {A = ℕ} 0 1 = cc in absurd (omega arith)
 
-pub stack_as : (xs : List ℕ) (v : Names) (t u : Table) (sl st : List ℕ) → sl ≡ st → (top at : ℕ) (node : TypeNode) (r : Option ℕ) → TypeMade xs v t u (drop top sl) at node r → TypeMade xs v t u (drop top st) at node r
-stack_as xs v t u sl st e top at node r m = subst (λ (z : List ℕ). TypeMade xs v t u (drop top z) at node r) e m
+pub stack_as : (xs : List ℕ) (v : Names) (t u : Table) (sl st : List ℕ) → sl ≡ st → (at : ℕ) (node : TypeNode) (r : Option ℕ) → TypeMade xs v t u sl at node r → TypeMade xs v t u st at node r
+stack_as xs v t u sl st e at node r m = subst (λ (z : List ℕ). TypeMade xs v t u z at node r) e m

@@ -1,6 +1,5 @@
 -- The ranks of names, one after the other.
-use Rattle.std.proofs.Common.{◌≡◌, ℕ, suc, ◌+◌, ◌<◌, ◌≤◌, true, false, List, [], ◌∷◌, ◌++◌, length, get_or, take, drop, sym, refl, ap, ◌∙◌, subst, arith, length-append}
-use mathlib.Core.Bool.{false≢true}
+use Rattle.std.proofs.Common.{Option, Some, None, ◌≡◌, ℕ, suc, ◌+◌, ◌<◌, ◌≤◌, List, [], ◌∷◌, ◌++◌, length, get_or, take, drop, sym, refl, ap, ◌∙◌, subst, arith, length-append}
 use Rattle.std.proofs.lemmas.List.{append_assoc, append-nil}
 use Rattle.query.specs.Data.{Name}
 use Rattle.format.specs.Coding.{name, writes, AllFit}
@@ -10,9 +9,12 @@ use Rattle.format.specs.Codings.{name_way}
 use Rattle.ranks.specs.Ranks.{In, names_of}
 use Rattle.ranks.specs.Known.{AllIn}
 use Rattle.ranks.specs.declared.names.Names.{Names}
-use Rattle.ranks.proofs.Placed.{read_same, read_next, read_within, not_stuck, name_bytes}
+use Rattle.ranks.specs.Placed.{read_same, read_next, read_within, not_stuck, name_bytes}
 use Rattle.types.specs.Operators.{NamesOf, named}
 use Rattle.typing.specs.Loads.{RanksRead}
+
+pub none_some : ◌≡◌ {A = Option (Unit {0})} None (Some tt) → ⊥
+none_some e = let z : ◌≡◌ {A = ℕ} 0 1 = cc in absurd (omega arith)
 
 names_more : (w : ℕ) (ks : List ℕ) (k : ℕ) → NamesOf w ks → k < w → NamesOf w (ks ++ (k ∷ []))
 unfolding NamesOf
@@ -49,8 +51,8 @@ ranking_begin xs v [] at count h e = record { within = h; below = tt; long = ref
 ranking_begin xs v (k ∷ ks) at count h e = let z : ◌≡◌ {A = ℕ} 0 1 = cc in absurd (omega arith)
 
 module _ (xs : List ℕ) (v : Names) (ks : List ℕ) (at count i pos : ℕ) (h : i < count) (g : Ranking xs v ks at count i pos) where
-  pub ranking_stuck : (p : ℕ) → Stuck name (from pos xs) p → RanksRead xs v ks at count false
-  ranking_stuck p s = record { below = g.below; many = λ e. absurd (false≢true e); tells = λ ms rest f m q a c. absurd (go (g.tells ms rest f m q a)) }
+  pub ranking_stuck : (p : ℕ) → Stuck name (from pos xs) p → RanksRead xs v ks at count None
+  ranking_stuck p s = record { below = g.below; many = λ e. absurd (none_some e); tells = λ ms rest f m q a c. absurd (go (g.tells ms rest f m q a)) }
     where
       on : (us : List Name) (rest : List ℕ) → AllFit name us → length us + i ≡ count → drop pos xs ≡ writes name us ++ rest → ⊥
       on [] rest f m q = absurd (omega arith)
@@ -59,8 +61,8 @@ module _ (xs : List ℕ) (v : Names) (ks : List ℕ) (at count i pos : ℕ) (h :
       go : {ms : List Name} {rest : List ℕ} → ToCome xs v ks count i pos ms rest → ⊥
       go {ms} {rest} c = on c.us rest c.fits c.many c.is
 
-  pub ranking_full : 8200 ≤ length ks → RanksRead xs v ks at count false
-  ranking_full l = record { below = g.below; many = λ e. absurd (false≢true e); tells = λ ms rest f m q a c. absurd (omega (arith, g.long)) }
+  pub ranking_full : 8200 ≤ length ks → RanksRead xs v ks at count None
+  ranking_full l = record { below = g.below; many = λ e. absurd (none_some e); tells = λ ms rest f m q a c. absurd (omega (arith, g.long)) }
 
   module _ (n : ℕ) (r : ReadAs name (from pos xs) (4 + n) (λ t. length t ≡ n)) where
     pub ranking_lies : pos + (4 + n) ≤ length xs
@@ -76,9 +78,9 @@ module _ (xs : List ℕ) (v : Names) (ks : List ℕ) (at count i pos : ℕ) (h :
           (read_next name name_way xs pos (4 + n) r.thing x (writes name us ++ rest) g.within f.0 q2 r.begins).rest,
         )
 
-    pub ranking_absent : (In (names_of xs v) (take n (drop (pos + 4) xs)) → ⊥) → RanksRead xs v ks at count false
+    pub ranking_absent : (In (names_of xs v) (take n (drop (pos + 4) xs)) → ⊥) → RanksRead xs v ks at count None
     unfolding AllIn
-    ranking_absent no-in = record { below = g.below; many = λ e. absurd (false≢true e); tells = λ ms rest f m q a c. absurd (go (g.tells ms rest f m q a)) }
+    ranking_absent no-in = record { below = g.below; many = λ e. absurd (none_some e); tells = λ ms rest f m q a c. absurd (go (g.tells ms rest f m q a)) }
       where
         on : (us : List Name) (rest : List ℕ) → AllFit name us → length us + i ≡ count → drop pos xs ≡ writes name us ++ rest → AllIn (names_of xs v) us → ⊥
         on [] rest f m q a = absurd (omega arith)
@@ -113,7 +115,7 @@ module _ (xs : List ℕ) (v : Names) (ks : List ℕ) (at count i pos : ℕ) (h :
         go : {ms : List Name} {rest : List ℕ} → ToCome xs v ks count i pos ms rest → ToCome xs v js count (i + 1) to ms rest
         go {ms} {rest} c = on ms rest c.us c.fits c.many c.is c.known c.all
 
-pub ranking_end : (xs : List ℕ) (v : Names) (ks : List ℕ) (at count i pos : ℕ) → count ≤ i → i ≤ count → Ranking xs v ks at count i pos → RanksRead xs v ks at count true
+pub ranking_end : (xs : List ℕ) (v : Names) (ks : List ℕ) (at count i pos : ℕ) → count ≤ i → i ≤ count → Ranking xs v ks at count i pos → RanksRead xs v ks at count (Some tt)
 ranking_end xs v ks at count i pos h l g = record { below = g.below; many = λ e. omega (arith, g.long); tells = λ ms rest f m q a c. (refl, go (g.tells ms rest f m q a)) }
   where
     on : (ms us : List Name) → length us + i ≡ count → named (names_of xs v) ks ++ us ≡ ms → named (names_of xs v) ks ≡ ms

@@ -1,7 +1,6 @@
 -- The type of a head, from those of its parts.
-use Rattle.std.proofs.Common.{◌≡◌, ℕ, zero, suc, ◌+◌, ◌-◌, ◌<◌, ◌≤◌, Bool, true, false, ◌&&◌, eqb, ltb, leb, ◌⊎◌, List, [], ◌∷◌, ◌++◌, length, get_or, take, drop, None, Option, sym, refl, ap, ◌∙◌, subst, ap₂, inl, inr, true≢false, arith, length-append, length-drop}
-use mathlib.Core.Bool.{false≢true}
-use Rattle.std.proofs.lemmas.List.{drop_more, length-take-le}
+use Rattle.std.proofs.Common.{Some, ◌≡◌, ℕ, zero, suc, ◌+◌, ◌-◌, ◌<◌, ◌≤◌, Bool, true, false, ◌&&◌, eqb, ltb, leb, ◌⊎◌, List, [], ◌∷◌, ◌++◌, length, get_or, take, drop, None, Option, sym, refl, ap, ◌∙◌, subst, ap₂, inl, inr, true≢false, arith, length-append}
+use Rattle.std.proofs.lemmas.List.{drop_more}
 use Rattle.query.specs.Data.{Name, same_text, less_text}
 use Rattle.query.specs.Query.{Ty, a_unit, a_num, a_truth, a_text, a_bag, a_rec, an_either, Tys, no_ty, ty}
 use Rattle.query.specs.Types.{if_so}
@@ -14,9 +13,8 @@ use Rattle.format.specs.declared.node.TypeNode.TheVariants as tn
 use Rattle.ranks.specs.Ranks.{Ordered, names_of}
 use Rattle.ranks.specs.Known.{AllIn, head_names}
 use Rattle.ranks.specs.declared.names.Names.{Names}
-use Rattle.ranks.proofs.TypeHeads.{head_ty, kids_ty, listed_tys, kids_many}
+use Rattle.ranks.specs.TypeHeads.{head_ty, kids_ty, listed_tys, kids_many}
 use Rattle.ranks.proofs.TypeNames.{rec_front, rec_long}
-use Rattle.ranks.proofs.Listings.{part_same}
 use Rattle.types.specs.Shapes.{Shape, type_at, Ranked}
 use Rattle.types.specs.Fields.{rise}
 use Rattle.types.specs.Operators.{NamesOf, named, types_of, zip_ty}
@@ -24,6 +22,7 @@ use Rattle.types.specs.Outcomes.{look, Meant}
 use Rattle.types.specs.declared.table.Table.{Table}
 use Rattle.types.proofs.Meanings.{meant_as, meant_more}
 use Rattle.typing.specs.Loads.{name_first, names_rise, head_sound, TypeMade, RanksRead}
+use Rattle.typing.proofs.RankReads.{none_some}
 
 -- names in order are told by their numbers
 three : (i j : ℕ) → (i < j) ⊎ ((i ≡ j) ⊎ (j < i))
@@ -130,8 +129,8 @@ first_type ns ss st top u us h e =
     let q : type_at ns ss (get_or st top 0) ∷ types_of ns ss (drop (top + 1) st) ≡ u ∷ us = sym (ap (λ (z : List ℕ). types_of ns ss z) (drop_more st top 0 h)) ∙ e in
     let a : type_at ns ss (get_or st top 0) ≡ u = cc in let b : types_of ns ss (drop (top + 1) st) ≡ us = cc in (a, b)
 
-too_few : (ns : List Name) (ss : List Shape) (st : List ℕ) (top k : ℕ) (us vs : List Ty) → length us ≡ k → length st - top < k → types_of ns ss (drop top st) ≡ us ++ vs → ⊥
-too_few ns ss st top k us vs l h e = omega (arith, ap (λ (z : List Ty). length z) e, length-append us vs, types_length ns ss (drop top st), length-drop top st)
+too_few : (ns : List Name) (ss : List Shape) (st : List ℕ) (k : ℕ) (us vs : List Ty) → length us ≡ k → length st < k → types_of ns ss st ≡ us ++ vs → ⊥
+too_few ns ss st k us vs l h e = omega (arith, ap (λ (z : List Ty). length z) e, length-append us vs, types_length ns ss st)
 
 unit_is : (t : Ty) → head_ty t ≡ unit_t → t ≡ a_unit
 unit_is a_unit h = refl
@@ -206,63 +205,63 @@ zip_back no_ty = refl
 zip_back (ty n t ts) = ap (λ (z : Tys). ty n t z) (zip_back ts)
 
 -- each head
-module _ (xs : List ℕ) (v : Names) (t u : Table) (st : List ℕ) (top at : ℕ) (node : TypeNode) (r : Option ℕ) where
-  pub unit_made : node ≡ tn.Nothing → Meant (names_of xs v) t u 1 0 r (a_unit ∷ []) → TypeMade xs v t u (drop top st) at node r
+module _ (xs : List ℕ) (v : Names) (t u : Table) (st : List ℕ) (at : ℕ) (node : TypeNode) (r : Option ℕ) where
+  pub unit_made : node ≡ tn.Nothing → Meant (names_of xs v) t u 1 0 r (a_unit ∷ []) → TypeMade xs v t u st at node r
   unfolding head_sound if_so
   unit_made e m y vs rest tl f q a l k =
       let i : y ≡ a_unit = unit_is y (subst (λ (z : TypeNode). TellsType z (head_ty y)) e tl) in
       meant_more (meant_as m (if_so (head_sound y) (y ∷ [])) (ap (λ (z : Ty). if_so (head_sound z) (z ∷ [])) i)) 1 (length (head_names (head_ty y))) (omega arith) (omega arith)
 
-  pub num_made : node ≡ tn.Number → Meant (names_of xs v) t u 1 0 r (a_num ∷ []) → TypeMade xs v t u (drop top st) at node r
+  pub num_made : node ≡ tn.Number → Meant (names_of xs v) t u 1 0 r (a_num ∷ []) → TypeMade xs v t u st at node r
   unfolding head_sound if_so
   num_made e m y vs rest tl f q a l k =
       let i : y ≡ a_num = num_is y (subst (λ (z : TypeNode). TellsType z (head_ty y)) e tl) in
       meant_more (meant_as m (if_so (head_sound y) (y ∷ [])) (ap (λ (z : Ty). if_so (head_sound z) (z ∷ [])) i)) 1 (length (head_names (head_ty y))) (omega arith) (omega arith)
 
-  pub truth_made : node ≡ tn.Truth → Meant (names_of xs v) t u 1 0 r (a_truth ∷ []) → TypeMade xs v t u (drop top st) at node r
+  pub truth_made : node ≡ tn.Truth → Meant (names_of xs v) t u 1 0 r (a_truth ∷ []) → TypeMade xs v t u st at node r
   unfolding head_sound if_so
   truth_made e m y vs rest tl f q a l k =
       let i : y ≡ a_truth = truth_is y (subst (λ (z : TypeNode). TellsType z (head_ty y)) e tl) in
       meant_more (meant_as m (if_so (head_sound y) (y ∷ [])) (ap (λ (z : Ty). if_so (head_sound z) (z ∷ [])) i)) 1 (length (head_names (head_ty y))) (omega arith) (omega arith)
 
-  pub text_made : node ≡ tn.Text → Meant (names_of xs v) t u 1 0 r (a_text ∷ []) → TypeMade xs v t u (drop top st) at node r
+  pub text_made : node ≡ tn.Text → Meant (names_of xs v) t u 1 0 r (a_text ∷ []) → TypeMade xs v t u st at node r
   unfolding head_sound if_so
   text_made e m y vs rest tl f q a l k =
       let i : y ≡ a_text = text_is y (subst (λ (z : TypeNode). TellsType z (head_ty y)) e tl) in
       meant_more (meant_as m (if_so (head_sound y) (y ∷ [])) (ap (λ (z : Ty). if_so (head_sound z) (z ∷ [])) i)) 1 (length (head_names (head_ty y))) (omega arith) (omega arith)
 
-  pub bag_made : node ≡ tn.Bag → top < length st → Meant (names_of xs v) t u 1 0 r (a_bag (type_at (names_of xs v) (look t) (get_or st top 0)) ∷ []) → TypeMade xs v t u (drop top st) at node r
+  pub bag_made : node ≡ tn.Bag → 0 < length st → Meant (names_of xs v) t u 1 0 r (a_bag (type_at (names_of xs v) (look t) (get_or st 0 0)) ∷ []) → TypeMade xs v t u st at node r
   unfolding head_sound if_so
   bag_made e h m y vs rest tl f q a l k =
       let i = bag_is y (subst (λ (z : TypeNode). TellsType z (head_ty y)) e tl) in
-      let w = first_type (names_of xs v) (look t) st top i.0 vs h (k ∙ ap (λ (z : Ty). kids_ty z ++ vs) i.1) in
+      let w = first_type (names_of xs v) (look t) st 0 i.0 vs h (k ∙ ap (λ (z : Ty). kids_ty z ++ vs) i.1) in
       meant_more (meant_as m (if_so (head_sound y) (y ∷ [])) (ap (λ (z : Ty). if_so (head_sound z) (z ∷ [])) (i.1 ∙ ap a_bag (sym w.0)))) 1 (length (head_names (head_ty y))) (omega arith) (omega arith)
 
-  pub either_made : node ≡ tn.Either → top + 1 < length st → Meant (names_of xs v) t u 1 0 r (an_either (type_at (names_of xs v) (look t) (get_or st top 0)) (type_at (names_of xs v) (look t) (get_or st (top + 1) 0)) ∷ []) → TypeMade xs v t u (drop top st) at node r
+  pub either_made : node ≡ tn.Either → 1 < length st → Meant (names_of xs v) t u 1 0 r (an_either (type_at (names_of xs v) (look t) (get_or st 0 0)) (type_at (names_of xs v) (look t) (get_or st 1 0)) ∷ []) → TypeMade xs v t u st at node r
   unfolding head_sound if_so
   either_made e h m y vs rest tl f q a l k =
       let i = either_is y (subst (λ (z : TypeNode). TellsType z (head_ty y)) e tl) in
-      let w = first_type (names_of xs v) (look t) st top i.0 (i.1 ∷ vs) (omega arith) (k ∙ ap (λ (z : Ty). kids_ty z ++ vs) i.2) in
-      let w2 = first_type (names_of xs v) (look t) st (top + 1) i.1 vs h w.1 in
+      let w = first_type (names_of xs v) (look t) st 0 i.0 (i.1 ∷ vs) (omega arith) (k ∙ ap (λ (z : Ty). kids_ty z ++ vs) i.2) in
+      let w2 = first_type (names_of xs v) (look t) st 1 i.1 vs h w.1 in
       meant_more (meant_as m (if_so (head_sound y) (y ∷ [])) (ap (λ (z : Ty). if_so (head_sound z) (z ∷ [])) (i.2 ∙ ap₂ an_either (sym w.0) (sym w2.0)))) 1 (length (head_names (head_ty y))) (omega arith) (omega arith)
 
-  pub bag_short : node ≡ tn.Bag → length st - top < 1 → TypeMade xs v t t (drop top st) at node None
+  pub bag_short : node ≡ tn.Bag → length st < 1 → TypeMade xs v t t st at node None
   bag_short e h y vs rest tl f q a l k =
       let i = bag_is y (subst (λ (z : TypeNode). TellsType z (head_ty y)) e tl) in
-      absurd (too_few (names_of xs v) (look t) st top 1 (i.0 ∷ []) vs refl h (k ∙ ap (λ (z : Ty). kids_ty z ++ vs) i.1))
+      absurd (too_few (names_of xs v) (look t) st 1 (i.0 ∷ []) vs refl h (k ∙ ap (λ (z : Ty). kids_ty z ++ vs) i.1))
 
-  pub either_short : node ≡ tn.Either → length st - top < 2 → TypeMade xs v t t (drop top st) at node None
+  pub either_short : node ≡ tn.Either → length st < 2 → TypeMade xs v t t st at node None
   either_short e h y vs rest tl f q a l k =
       let i = either_is y (subst (λ (z : TypeNode). TellsType z (head_ty y)) e tl) in
-      absurd (too_few (names_of xs v) (look t) st top 2 (i.0 ∷ i.1 ∷ []) vs refl h (k ∙ ap (λ (z : Ty). kids_ty z ++ vs) i.2))
+      absurd (too_few (names_of xs v) (look t) st 2 (i.0 ∷ i.1 ∷ []) vs refl h (k ∙ ap (λ (z : Ty). kids_ty z ++ vs) i.2))
 
   -- a record's
   module _ (n : ℕ) (in_bytes : at ≤ length xs) where
-    pub rec_short : length xs - at < 5 → TypeMade xs v t t (drop top st) at (tn.Record n) None
+    pub rec_short : length xs - at < 5 → TypeMade xs v t t st at (tn.Record n) None
     rec_short h y vs rest tl f q a l k = absurd (omega (arith, rec_long xs at tl.0 rest in_bytes (q ∙ ap (λ (z : TyHead). write_ty_head z ++ rest) tl.1)))
 
     module _ (ks : List ℕ) where
-      read : (b : Bool) → RanksRead xs v ks (at + 5) n b → (y : Ty) (rest : List ℕ) → (tl : TellsType (tn.Record n) (head_ty y)) → FitsTyHead (head_ty y) → drop at xs ≡ write_ty_head (head_ty y) ++ rest → AllIn (names_of xs v) (head_names (head_ty y)) → length (head_names (head_ty y)) ≤ 8200 → (b ≡ true) × (named (names_of xs v) ks ≡ tl.0)
+      read : (b : Option (Unit {0})) → RanksRead xs v ks (at + 5) n b → (y : Ty) (rest : List ℕ) → (tl : TellsType (tn.Record n) (head_ty y)) → FitsTyHead (head_ty y) → drop at xs ≡ write_ty_head (head_ty y) ++ rest → AllIn (names_of xs v) (head_names (head_ty y)) → length (head_names (head_ty y)) ≤ 8200 → (b ≡ Some tt) × (named (names_of xs v) ks ≡ tl.0)
       unfolding FitsTyHead head_names
       read b g y rest tl f q a l =
           let ms = tl.0 in
@@ -270,44 +269,40 @@ module _ (xs : List ℕ) (v : Names) (t u : Table) (st : List ℕ) (top at : ℕ
           g.tells ms rest (subst (λ (z : TyHead). FitsTyHead z) tl.1 f).1 tl.2 (rec_front xs at ms rest (q ∙ ap (λ (z : TyHead). write_ty_head z ++ rest) tl.1))
           (subst (λ (z : TyHead). AllIn (names_of xs v) (head_names z)) tl.1 a) (omega arith)
 
-      pub rec_unknown : RanksRead xs v ks (at + 5) n false → TypeMade xs v t t (drop top st) at (tn.Record n) None
-      rec_unknown g y vs rest tl f q a l k = absurd (false≢true (read false g y rest tl f q a l).0)
+      pub rec_unknown : RanksRead xs v ks (at + 5) n None → TypeMade xs v t t st at (tn.Record n) None
+      rec_unknown g y vs rest tl f q a l k = absurd (none_some (read None g y rest tl f q a l).0)
 
-      pub rec_few : RanksRead xs v ks (at + 5) n true → length st - top < n → TypeMade xs v t t (drop top st) at (tn.Record n) None
+      pub rec_few : RanksRead xs v ks (at + 5) n (Some tt) → length st < n → TypeMade xs v t t st at (tn.Record n) None
       unfolding listed_tys
       rec_few g h y vs rest tl f q a l k =
-          absurd (too_few (names_of xs v) (look t) st top n (kids_ty y) vs (kids_many y ∙ (ap (λ (z : TyHead). ty_arity z) tl.1 ∙ arity_is tl.0 tl.2)) h k)
+          absurd (too_few (names_of xs v) (look t) st n (kids_ty y) vs (kids_many y ∙ (ap (λ (z : TyHead). ty_arity z) tl.1 ∙ arity_is tl.0 tl.2)) h k)
 
-      pub rec_made : RanksRead xs v ks (at + 5) n true → Ranked (names_of xs v) (length (names_of xs v))
-          → Meant (names_of xs v) t u 1 (length ks) r (if_so (rise 0 ks) (a_rec (zip_ty (named (names_of xs v) ks) (types_of (names_of xs v) (look t) (take n (drop top st)))) ∷ [])) → TypeMade xs v t u (drop top st) at (tn.Record n) r
+      pub rec_made : RanksRead xs v ks (at + 5) n (Some tt) → Ranked (names_of xs v) (length (names_of xs v))
+          → Meant (names_of xs v) t u 1 (length ks) r (if_so (rise 0 ks) (a_rec (zip_ty (named (names_of xs v) ks) (types_of (names_of xs v) (look t) (take n st))) ∷ [])) → TypeMade xs v t u st at (tn.Record n) r
       unfolding head_sound head_names
       rec_made g rk m y vs rest tl f q a l k =
-          let d = read true g y rest tl f q a l in
+          let d = read (Some tt) g y rest tl f q a l in
           let i = rec_is y tl.0 tl.1 in
           let ts = i.0 in
           let nm : named (names_of xs v) ks ≡ names_ty ts = d.1 ∙ sym i.2 in
           let many : length (listed_tys ts) ≡ n = ap (λ (z : Ty). length (kids_ty z)) (sym i.1) ∙ (kids_many y ∙ (ap (λ (z : TyHead). ty_arity z) tl.1 ∙ arity_is tl.0 tl.2)) in
-          let tk : types_of (names_of xs v) (look t) (take n (drop top st)) ≡ listed_tys ts =
-          types_take (names_of xs v) (look t) n (drop top st) ∙ (ap (λ (z : List Ty). take n z) (k ∙ ap (λ (z : Ty). kids_ty z ++ vs) i.1) ∙ take_front (listed_tys ts) vs n (sym many)) in
-          let e : a_rec (zip_ty (named (names_of xs v) ks) (types_of (names_of xs v) (look t) (take n (drop top st)))) ≡ y =
+          let tk : types_of (names_of xs v) (look t) (take n st) ≡ listed_tys ts =
+          types_take (names_of xs v) (look t) n st ∙ (ap (λ (z : List Ty). take n z) (k ∙ ap (λ (z : Ty). kids_ty z ++ vs) i.1) ∙ take_front (listed_tys ts) vs n (sym many)) in
+          let e : a_rec (zip_ty (named (names_of xs v) ks) (types_of (names_of xs v) (look t) (take n st))) ≡ y =
           ap a_rec (ap₂ (λ (p : List Name) (s : List Ty). zip_ty p s) nm tk ∙ zip_back ts) ∙ sym i.1 in
           let b : head_sound y ≡ rise 0 ks = ap (λ (z : Ty). head_sound z) i.1 ∙ (ap (λ (z : List Name). names_rise z) (sym nm) ∙ sym (rise_names (names_of xs v) (length (names_of xs v)) rk ks g.below)) in
           let ln : length ks ≡ length (head_names (head_ty y)) = g.many refl ∙ (sym tl.2 ∙ ap (λ (z : TyHead). length (head_names z)) (sym tl.1)) in
           subst (λ w. Meant (names_of xs v) t u 1 w r (if_so (head_sound y) (y ∷ []))) ln
           (meant_as m (if_so (head_sound y) (y ∷ [])) (ap₂ (λ (c : Bool) (z : Ty). if_so c (z ∷ [])) b (sym e)))
 
-pub rec_as : (ns : List Name) (t u : Table) (r : Option ℕ) (st sl ks : List ℕ) (top n : ℕ) → sl ≡ ks
-    → Meant ns t u 1 (length sl) r (if_so (rise 0 sl) (a_rec (zip_ty (named ns sl) (types_of ns (look t) (take ((top + n) - top) (drop top st)))) ∷ []))
-    → Meant ns t u 1 (length ks) r (if_so (rise 0 ks) (a_rec (zip_ty (named ns ks) (types_of ns (look t) (take n (drop top st)))) ∷ []))
-rec_as ns t u r st sl ks top n e m =
-    subst (λ (z : List ℕ). Meant ns t u 1 (length ks) r (if_so (rise 0 ks) (a_rec (zip_ty (named ns ks) (types_of ns (look t) z)) ∷ []))) (part_same st top n)
-    (subst (λ (z : List ℕ). Meant ns t u 1 (length z) r (if_so (rise 0 z) (a_rec (zip_ty (named ns z) (types_of ns (look t) (take ((top + n) - top) (drop top st)))) ∷ []))) e m)
+pub rec_as : (ns : List Name) (t u : Table) (r : Option ℕ) (st ps sl ks : List ℕ) (n : ℕ) → sl ≡ ks → ps ≡ take n st
+    → Meant ns t u 1 (length sl) r (if_so (rise 0 sl) (a_rec (zip_ty (named ns sl) (types_of ns (look t) ps)) ∷ [])) → Meant ns t u 1 (length ks) r (if_so (rise 0 ks) (a_rec (zip_ty (named ns ks) (types_of ns (look t) (take n st))) ∷ []))
+rec_as ns t u r st ps sl ks n e f m =
+    subst (λ (z : List ℕ). Meant ns t u 1 (length ks) r (if_so (rise 0 ks) (a_rec (zip_ty (named ns ks) (types_of ns (look t) z)) ∷ []))) f
+    (subst (λ (z : List ℕ). Meant ns t u 1 (length z) r (if_so (rise 0 z) (a_rec (zip_ty (named ns z) (types_of ns (look t) ps)) ∷ []))) e m)
 
-pub part_long : (st : List ℕ) (top n : ℕ) → n ≤ length st - top → length (take ((top + n) - top) (drop top st)) ≡ n
-part_long st top n h = ap (λ (z : List ℕ). length z) (part_same st top n) ∙ length-take-le n (drop top st) (omega (arith, length-drop top st))
-
-pub node_as : (xs : List ℕ) (v : Names) (t u : Table) (st : List ℕ) (top at : ℕ) (node other : TypeNode) (r : Option ℕ) → node ≡ other → TypeMade xs v t u (drop top st) at other r → TypeMade xs v t u (drop top st) at node r
-node_as xs v t u st top at node other r e m = subst (λ (z : TypeNode). TypeMade xs v t u (drop top st) at z r) (sym e) m
+pub node_as : (xs : List ℕ) (v : Names) (t u : Table) (st : List ℕ) (at : ℕ) (node other : TypeNode) (r : Option ℕ) → node ≡ other → TypeMade xs v t u st at other r → TypeMade xs v t u st at node r
+node_as xs v t u st at node other r e m = subst (λ (z : TypeNode). TypeMade xs v t u st at z r) (sym e) m
 
 pub names_as : (w z : ℕ) (ks js : List ℕ) → w ≡ z → ks ≡ js → NamesOf z js → NamesOf w ks
 names_as w z ks js e f n = subst (λ (y : ℕ). NamesOf y ks) (sym e) (subst (λ (y : List ℕ). NamesOf z y) (sym f) n)

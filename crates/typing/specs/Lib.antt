@@ -1,3 +1,4 @@
+pub mod Stacks
 pub mod Loads
 pub mod Typed
 pub mod Room

@@ -1,5 +1,5 @@
 -- Types read from their bytes: head by head.
-use Rattle.std.specs.Prelude.{◌≡◌, ℕ, zero, suc, ◌+◌, ◌<◌, ◌≤◌, Bool, true, false, ◌&&◌, ◌⊎◌, List, [], ◌∷◌, ◌++◌, length, drop, Some, None, vec_items, vec_capacity, Option, slice_index}
+use Rattle.std.specs.Prelude.{◌≡◌, ℕ, zero, suc, ◌+◌, ◌<◌, ◌≤◌, Bool, true, false, ◌&&◌, List, [], ◌∷◌, ◌++◌, length, drop, Some, None, vec_capacity, Option, slice_index}
 use Rattle.query.specs.Data.{Name, less_text}
 use Rattle.query.specs.Query.{Ty, a_unit, a_num, a_truth, a_text, a_bag, a_rec, an_either}
 use Rattle.query.specs.Types.{if_so}
@@ -16,7 +16,7 @@ use Rattle.format.specs.Wire.{types, names_ty}
 use Rattle.format.specs.Heads.{write_ty_head, FitsTyHead}
 use Rattle.format.specs.Nodes.{TellsType}
 use Rattle.format.specs.declared.node.TypeNode.{TypeNode}
-use Rattle.ranks.proofs.TypeHeads.{head_ty, kids_ty}
+use Rattle.ranks.specs.TypeHeads.{head_ty, kids_ty}
 
 -- the first of some types opened: its parts in its place
 unfoldable pub opened : List Ty → List Ty
@@ -48,15 +48,15 @@ pub record Walked (ts : List Ty) (at : ℕ) (hs : List ℕ) : Type 0 where
   pub some : (i : ℕ) → i < length hs → 0 < length (walk ts i)
 
 -- whatever types stand at a place, if they are not too large: all their heads were noted
-pub record Headed (xs : List ℕ) (hs : List ℕ) (at count : ℕ) (r : Bool) : Type 0 where
+pub record Headed (xs : List ℕ) (hs : List ℕ) (at count : ℕ) (r : Option (Unit {0})) : Type 0 where
   pub lie : (i : ℕ) → i < length hs → slice_index hs i ≤ length xs
-  pub walked : (ts : List Ty) (rest : List ℕ) → AllFit types ts → length ts ≡ count → drop at xs ≡ writes types ts ++ rest → sizes ts ≤ 8192 → (r ≡ true) × Walked ts at hs × (walk ts (length hs) ≡ [])
+  pub walked : (ts : List Ty) (rest : List ℕ) → AllFit types ts → length ts ≡ count → drop at xs ≡ writes types ts ++ rest → sizes ts ≤ 8192 → (r ≡ Some tt) × Walked ts at hs × (walk ts (length hs) ≡ [])
 
 -- whatever names stand at a place, if all are known and not too many: these are their ranks
-pub record RanksRead (xs : List ℕ) (v : Names) (ks : List ℕ) (at count : ℕ) (r : Bool) : Type 0 where
+pub record RanksRead (xs : List ℕ) (v : Names) (ks : List ℕ) (at count : ℕ) (r : Option (Unit {0})) : Type 0 where
   pub below : NamesOf (length (names_of xs v)) ks
-  pub many : r ≡ true → length ks ≡ count
-  pub tells : (ms : List Name) (rest : List ℕ) → AllFit name ms → length ms ≡ count → drop at xs ≡ writes name ms ++ rest → AllIn (names_of xs v) ms → count ≤ 8200 → (r ≡ true) × (named (names_of xs v) ks ≡ ms)
+  pub many : r ≡ Some tt → length ks ≡ count
+  pub tells : (ms : List Name) (rest : List ℕ) → AllFit name ms → length ms ≡ count → drop at xs ≡ writes name ms ++ rest → AllIn (names_of xs v) ms → count ≤ 8200 → (r ≡ Some tt) × (named (names_of xs v) ks ≡ ms)
 
 -- names in order
 unfoldable pub name_first : Name → List Name → Bool
@@ -86,31 +86,24 @@ TypeMade xs v t u nums at node r =
 -- what is worked in has its size
 pub record Fit (w : Work) : Type 0 where
   pub heads : 8200 ≤ vec_capacity w.heads
-  pub stack : length (vec_items w.stack) ≡ 8200
   pub ranks : 8200 ≤ vec_capacity w.ranks
 
--- a number stands on the stack in place of so many
-pub record Placed (st su : List ℕ) (top parts x : ℕ) (r : Option ℕ) : Type 0 where
-  pub long : length su ≡ 8200
-  pub none : r ≡ None → ((8200 < top + parts) ⊎ (top + parts ≡ 0))
-  pub some : (k : ℕ) → r ≡ Some k → (k < 8200) × (top + parts ≤ 8200) × (drop k su ≡ x ∷ drop (top + parts) st)
-
--- numbers from a place on
-abbrev pub OnTop : Table → Work → Option ℕ → Type 0
+-- the numbers that were read are of types
+abbrev pub OnTop : Table → Work → Option (Unit {0}) → Type 0
 OnTop t w None = Unit {0}
-OnTop t w (Some top) = (top ≤ 8200) × NamesOf (size t) (drop top (vec_items w.stack))
+OnTop t w (Some done) = NamesOf (size t) w.stack
 
-abbrev pub LoadSays : List Name → Table → Work → List Ty → Option ℕ → Type 0
+abbrev pub LoadSays : List Name → Table → Work → List Ty → Option (Unit {0}) → Type 0
 LoadSays ns u w ts None = all_sound ts ≡ false
-LoadSays ns u w ts (Some top) = (all_sound ts ≡ true) × (types_of ns (look u) (drop top (vec_items w.stack)) ≡ ts)
+LoadSays ns u w ts (Some done) = (all_sound ts ≡ true) × (types_of ns (look u) w.stack ≡ ts)
 
 -- whatever types stand at a place, if all their names are known and they are not too large
-pub record LoadTold (ns : List Name) (t u : Table) (w : Work) (ts : List Ty) (r : Option ℕ) : Type 0 where
+pub record LoadTold (ns : List Name) (t u : Table) (w : Work) (ts : List Ty) (r : Option (Unit {0})) : Type 0 where
   pub few : size u ≤ size t + sizes ts
   pub slim : spread u ≤ spread t + names_all ts
   pub says : LoadSays ns u w ts r
 
-pub record Loaded (xs : List ℕ) (v : Names) (t u : Table) (w : Work) (at count : ℕ) (r : Option ℕ) : Type 0 where
+pub record Loaded (xs : List ℕ) (v : Names) (t u : Table) (w : Work) (at count : ℕ) (r : Option (Unit {0})) : Type 0 where
   pub grew : Grew t u None
   pub fit : Fit w
   pub numbers : OnTop u w r

@@ -5,5 +5,6 @@ pub mod load;
 pub mod memory;
 pub mod parts;
 pub mod ranked;
+pub mod stack;
 pub mod visit;
 pub mod work;

@@ -2,8 +2,9 @@
 ghost use Rattle.std.specs.Prelude.{ℕ, ◌≤◌, IfOk};
 ghost use Rattle.typing.specs.Room.{Roomy, Spacious};
 
+use crate::stack::Stack;
 use crate::work::Work;
-use ranks::names::Names;
+use ranks::names::{MOST, Names};
 use std::alloc::{AllocError, Global};
 use types::table::Table;
 
@@ -21,13 +22,13 @@ pub fn new(heap: Global) -> Result<Memory, AllocError>
     ensures roomy { IfOk result (λ m. Roomy m) }
     ensures spacious { IfOk result (λ m. Spacious m) }
 {
-    let places = Vec::with_capacity(heap, 8200)?;
+    let places = Vec::with_capacity(heap, MOST)?;
     let entries = Vec::with_capacity(heap, 16400)?;
     let fields = Vec::with_capacity(heap, 16793600)?;
-    let heads = Vec::with_capacity(heap, 8200)?;
-    let ranks = Vec::with_capacity(heap, 8200)?;
-    let stack = Vec::from_elem(heap, 0, 8200)?;
-    let schema = Vec::with_capacity(heap, 8200)?;
+    let heads = Vec::with_capacity(heap, MOST)?;
+    let ranks = Vec::with_capacity(heap, MOST)?;
+    let stack = Stack::new(heap)?;
+    let schema = Vec::with_capacity(heap, MOST)?;
     let names = Names { places };
     let table = Table {
         names: 0,

@@ -4,32 +4,34 @@ ghost use Rattle.ranks.specs.Ranks.{Listed};
 ghost use Rattle.typing.specs.Loads.{RanksRead};
 
 use format::name::read_name;
-use ranks::names::{Names, rank};
+use ranks::names::{MOST, Names, rank};
 
-// Whether all of so many names are known; their ranks are left in `ranks`.
-pub fn ranks_of(bytes: &[u8], names: &Names, ranks: &mut Vec<u32>, at: usize, count: usize) -> bool
+// The ranks of so many names, left in `ranks`; none where one is not known.
+pub fn ranks_of(
+    bytes: &[u8],
+    names: &Names,
+    ranks: &mut Vec<u32>,
+    at: usize,
+    count: usize,
+) -> Option<()>
     requires listed { Listed bytes.now names.now }
     requires within { at ≤ length bytes.now }
     requires cap { 8200 ≤ vec_capacity ranks.old }
     ensures cap { 8200 ≤ vec_capacity ranks.new }
     ensures read { RanksRead bytes.now names.now ranks.new.items at count result }
 {
-    ranks.truncate(0);
+    ranks.clear();
     let mut pos = at;
     for i in 0..count {
-        let Ok(n) = read_name(&bytes[pos..]) else {
-            return false;
-        };
+        let n = read_name(&bytes[pos..]).ok()?;
         let start = pos + 4;
         let end = start + n;
-        let Some(k) = rank(bytes, names, &bytes[start..end]) else {
-            return false;
-        };
-        if ranks.len() >= 8200 {
-            return false;
+        let k = rank(bytes, names, &bytes[start..end])?;
+        if ranks.len() >= MOST {
+            return None;
         }
         ranks.push_reserved(k);
         pos = end;
     }
-    true
+    Some(())
 }

@@ -17,27 +17,18 @@ pub struct Seen {
 fn mark_at(guide: &[u32], pos: usize) -> usize
     ensures { result ≡ slice_index guide.now pos }
 {
-    if pos < guide.len() {
-        guide[pos] as usize
-    } else {
-        0
-    }
+    guide.get(pos).copied().unwrap_or(0) as usize
 }
 
 pub fn visit_at(bytes: &[u8], guide: &[u32], base: usize, pos: usize) -> Option<Seen>
     ensures { SeenAt bytes.now guide.now base pos result }
 {
-    if base > bytes.len() {
-        return None;
-    }
-    if bytes.len() - base <= pos {
+    if base > bytes.len() || bytes.len() - base <= pos {
         return None;
     }
     let at = base + pos;
     let last = mark_at(guide, pos);
-    let Some(visit) = node(&bytes[at..], last) else {
-        return None;
-    };
+    let visit = node(&bytes[at..], last)?;
     Some(Seen {
         node: visit.node,
         first: visit.first,

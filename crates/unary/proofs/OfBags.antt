@@ -8,16 +8,17 @@ use Rattle.values.specs.Making.{BagLies}
 use Rattle.values.specs.declared.value.Place.{Place}
 use Rattle.values.specs.declared.value.Value.{Value}
 use Rattle.values.specs.declared.value.Value.TheVariants.{Number}
-use Rattle.values.specs.declared.value.Made.{Made}
+use Rattle.values.specs.Made.{Made}
 use Rattle.values.proofs.Frame.{kept_refl}
 use Rattle.bags.specs.Things.{joined_all}
 use Rattle.bags.specs.Bags.{ABag, PutsInBag, Sums, Counts, Flattens, TakesOnce}
-use Rattle.bags.specs.declared.flat.Flattened.TheVariants as flattened
+use Rattle.bags.specs.declared.flat.Flattened.{Flattened}
+use Rattle.bags.specs.declared.flat.NotFlat.TheVariants as not
 use Rattle.bags.proofs.Things.{as_many, bag_readable}
 use Rattle.bags.proofs.Flattening.{flat_joins, flat_fails}
 use Rattle.operators.specs.Kinds.{as_bag}
 use Rattle.operators.specs.Means.{Means}
-use Rattle.operators.specs.declared.came.Came.{Came}
+use Rattle.operators.specs.Came.{Came}
 use Rattle.operators.specs.declared.came.Stop.{Stop}
 use Rattle.operators.specs.declared.came.Stop.TheVariants.{Tired, NoRoom, Wrong}
 use Rattle.operators.proofs.OfKind.{is_bag, no_bag}
@@ -165,17 +166,17 @@ module _ (v : Value) (m : List ℕ) (top budget : ℕ) (p : Place) (e : as_bag v
         omega (arith, z, q.1)
 
     module _ (n : List ℕ) (l : p.count ≤ budget) (l2 : out ≤ budget - p.count) where
-      pub flat_turns : (r : Made) (j : ℕ) → Flattens p m top n (flattened.Made r j) → Turns (apply1 flat) v m top budget n (Ok (record { value = r.value; top = r.top; left = budget - p.count - out }))
-      flat_turns r j t = bag_turns flat n (Ok (record { value = r.value; top = r.top; left = budget - p.count - out })) t.kept (λ bs rate u ds d b k.
+      pub flat_turns : (end : ℕ) (f : Flattened) → Flattens p m top n end (Ok f) → Turns (apply1 flat) v m top budget n (Ok (record { value = f.bag; top = end; left = budget - p.count - out }))
+      flat_turns end f t = bag_turns flat n (Ok (record { value = f.bag; top = end; left = budget - p.count - out })) t.kept (λ bs rate u ds d b k.
           let q = t.means bs u ds b in
-          let f : flat_all ds one_bag ≡ one_bag q.0 = q.1.flat one_bag in
-          let o : out ≡ how_many q.0 = out_many bs u ds q.0 b f in
-          subst (λ y. Means bs rate (adding 1 y) (1 + budget) u top n (Ok (record { value = r.value; top = r.top; left = budget - p.count - out }))) (sym (flat_is ds q.0 f))
-          (made_here bs rate (adding 1 (adding (how_many ds) (one_bag q.0))) (bag q.0) (1 + budget) u top n (3 * how_many q.0) (budget - p.count - out) r refl (omega arith)
+          let g : flat_all ds one_bag ≡ one_bag q.0 = q.1.flat one_bag in
+          let o : out ≡ how_many q.0 = out_many bs u ds q.0 b g in
+          subst (λ y. Means bs rate (adding 1 y) (1 + budget) u top n (Ok (record { value = f.bag; top = end; left = budget - p.count - out }))) (sym (flat_is ds q.0 g))
+          (made_here bs rate (adding 1 (adding (how_many ds) (one_bag q.0))) (bag q.0) (1 + budget) u top n (3 * how_many q.0) (budget - p.count - out) (record { value = f.bag; top = end }) refl (omega arith)
           (slots_paid rate (1 + (how_many ds + (how_many q.0 + 0))) (how_many q.0) d (omega arith)) q.2))
 
-      pub flat_short : (j : ℕ) → Flattens p m top n (flattened.NoRoom j) → Turns (apply1 flat) v m top budget n (Err NoRoom)
-      flat_short j t = bag_turns flat n (Err NoRoom) t.kept (λ bs rate u ds d b k.
+      pub flat_short : (end j : ℕ) → Flattens p m top n end (Err (not.NoRoom j)) → Turns (apply1 flat) v m top budget n (Err NoRoom)
+      flat_short end j t = bag_turns flat n (Err NoRoom) t.kept (λ bs rate u ds d b k.
           let q = t.means bs u ds b in
           let f : flat_all ds one_bag ≡ one_bag q.0 = q.1.flat one_bag in
           let o : out ≡ how_many q.0 = out_many bs u ds q.0 b f in
@@ -183,8 +184,8 @@ module _ (v : Value) (m : List ℕ) (top budget : ℕ) (p : Place) (e : as_bag v
           (lacks_room bs rate (adding 1 (adding (how_many ds) (one_bag q.0))) (bag q.0) (1 + budget) u top n (3 * how_many q.0) (omega arith)
           (slots_paid rate (1 + (how_many ds + (how_many q.0 + 0))) (how_many q.0) d (omega arith)) q.2))
 
-      pub flat_wrong : Flattens p m top n flattened.NoBag → Turns (apply1 flat) v m top budget n (Err Wrong)
-      flat_wrong t = bag_turns flat n (Err Wrong) t.kept (λ bs rate u ds d b k. flat_none ds (t.means bs u ds b one_bag))
+      pub flat_wrong : (end : ℕ) → Flattens p m top n end (Err not.NoBag) → Turns (apply1 flat) v m top budget n (Err Wrong)
+      flat_wrong end t = bag_turns flat n (Err Wrong) t.kept (λ bs rate u ds d b k. flat_none ds (t.means bs u ds b one_bag))
 
   -- each of its things once
   module _ (bs : List ℕ) (deep : ℕ) where

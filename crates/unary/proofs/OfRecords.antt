@@ -6,14 +6,14 @@ use Rattle.values.specs.Memory.{Used, Spelled, Kept}
 use Rattle.values.specs.Making.{RecordLies}
 use Rattle.values.specs.declared.value.Place.{Place}
 use Rattle.values.specs.declared.value.Value.{Value}
-use Rattle.values.specs.declared.value.Made.{Made}
+use Rattle.values.specs.Made.{Made}
 use Rattle.values.proofs.Frame.{kept_refl}
 use Rattle.records.specs.Parts.{how_many_fields}
 use Rattle.records.specs.Records.{FieldsBelow, MakesField, Finds, LeavesOut, NamesStand, TakesOnly}
 use Rattle.records.proofs.Fields.{record_below}
 use Rattle.operators.specs.Kinds.{as_record}
 use Rattle.operators.specs.Means.{Means}
-use Rattle.operators.specs.declared.came.Came.{Came}
+use Rattle.operators.specs.Came.{Came}
 use Rattle.operators.specs.declared.came.Stop.{Stop}
 use Rattle.operators.specs.declared.came.Stop.TheVariants.{NoRoom, Wrong}
 use Rattle.operators.proofs.OfKind.{is_record, no_record}

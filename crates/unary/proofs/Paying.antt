@@ -5,7 +5,7 @@ use Rattle.query.specs.Query.{Got}
 use Rattle.values.specs.Memory.{Used, Holds}
 use Rattle.values.specs.Making.{MadeAs}
 use Rattle.values.specs.declared.value.Value.{Value}
-use Rattle.values.specs.declared.value.Made.{Made}
+use Rattle.values.specs.Made.{Made}
 use Rattle.operators.specs.Means.{CameTo, Stopped}
 use Rattle.operators.specs.declared.came.Stop.{Stop}
 use Rattle.operators.specs.declared.came.Stop.TheVariants.{NoRoom, Wrong}

@@ -24,11 +24,11 @@ use Rattle.records.specs.Records.{NamesStand}
 use Rattle.operators.specs.Applied.{Made1, op1, on_left, on_right, one_query, one_got, one_type}
 use Rattle.operators.specs.Ready.{OneReady, Ones, Written}
 use Rattle.operators.specs.Means.{Means}
-use Rattle.operators.specs.declared.came.Came.{Came}
+use Rattle.operators.specs.Came.{Came}
 use Rattle.operators.specs.declared.came.Stop.{Stop}
 use Rattle.operators.specs.declared.op.Single.{Single}
 use Rattle.operators.specs.declared.op.Single.TheVariants as sg
-use Rattle.unary.specs.Unary.{Lies, Given, PaysFor, Turns, TurnsOnce, TurnsByName, TurnsByNames, to_left, to_right}
+use Rattle.unary.specs.Unary.{Given, PaysFor, Turns, TurnsOnce, TurnsByName, TurnsByNames, to_left, to_right}
 
 -- a record's width, as it is counted here and there
 same_width : (fs : Fields) → how_many_fields fs ≡ width fs
@@ -91,9 +91,6 @@ spelled_at bs spot n k l long is =
     record { within = omega (arith, length-drop spot bs); is = sym is ∙ ap (λ (x : List ℕ). take (length n) x) (drop-drop 5 spot bs) ∙ ap (λ (x : ℕ). take x (drop (spot + 5) bs)) l }
 
 module _ (bs : List ℕ) (spot deep : ℕ) (s : Single) (v : Value) (m : List ℕ) (top : ℕ) (g : OneReady bs spot deep s v m top) where
-  pub ready_lies : Lies v m top
-  ready_lies = record { bytes = bs; used = g.used; datum = g.datum; holds = g.holds; low = g.low; room = g.room }
-
   given : Given bs g.rate g.used g.datum v m top
   given = record { dear = omega (arith, g.dear); holds = g.holds; low = g.low; room = g.room }
 

@@ -1,8 +1,10 @@
 -- What is not so, and a value on one side.
-use Rattle.std.proofs.Common.{◌≡◌, ℕ, ◌+◌, ◌<◌, ◌≤◌, Bool, not, List, length, Ok, Err, sym, refl, subst, arith}
+use Rattle.std.proofs.Common.{◌≡◌, ℕ, ◌+◌, Bool, not, List, length, Ok, Err, sym, refl, ap, subst, arith}
 use Rattle.query.specs.Data.{Data, truth, left, right}
 use Rattle.query.specs.Query.{came, adding, not_so, on_truth, apply1}
-use Rattle.values.specs.Memory.{Used, Under, Holds, Kept, Stored, loaded}
+use Rattle.values.specs.Memory.{Used, Holds, Kept, loaded}
+use Rattle.values.specs.Lent.{all, Pushed, Crowded}
+use Rattle.values.specs.declared.lent.Memory.{Memory}
 use Rattle.values.specs.declared.value.Value.{Value}
 use Rattle.values.specs.declared.value.Value.TheVariants.{Truth, Left, Right}
 use Rattle.values.proofs.Frame.{kept_refl, kept_agree, stored_kept, holds_kept}
@@ -12,7 +14,8 @@ use Rattle.operators.specs.declared.came.Stop.{Stop}
 use Rattle.operators.specs.declared.came.Stop.TheVariants.{NoRoom}
 use Rattle.operators.proofs.OfKind.{is_truth, no_truth}
 use Rattle.values.proofs.Ranged.{ranged, ranged_old, grown_ranged, run_ranged}
-use Rattle.unary.specs.Unary.{Turns, to_left, to_right}
+use Rattle.bags.proofs.Things.{top_within, crowded_kept}
+use Rattle.unary.specs.Unary.{Turns, Sides}
 use Rattle.unary.proofs.Paying.{stopped_wrong, made_here, is_here, lacks_room}
 
 module _ (v : Value) (m : List ℕ) (top budget : ℕ) where
@@ -29,46 +32,38 @@ module _ (v : Value) (m : List ℕ) (top budget : ℕ) where
         (is_here bs rate (adding 1 (came 0 (truth (not b)))) (truth (not b)) (1 + budget) u top m budget (Truth (not b)) refl refl g.room refl);
   }
 
-  -- a slot was written
-  module _ (n : List ℕ) (room : top + 3 ≤ length m) (s : Stored top v m n) where
-    slot_kept : Kept top m n
-    slot_kept = stored_kept s (omega arith)
+-- a value on a side
+module _ (told : ℕ → Value → Type 0) (on : Data → Data) (side : Sides told on) (v : Value) {m n : Memory} (budget : ℕ) where
+  pub side_turns : {at : ℕ} (r : Value) → told at r → Pushed 3 loaded v m n at → Turns (λ d. came 0 (on d)) v (all m) m.top budget (all n) (Ok (record { value = r; top = n.top; left = budget }))
+  side_turns {at} r t s =
+      let kept : Kept m.top (all m) (all n) = stored_kept s.put (omega arith) in
+      record {
+        kept = kept;
+        means = λ bs rate u d g.
+            let w : Used = ranged u m.top n.top in
+            let there : Holds bs (all n) w d (loaded (all n) at) = rw s.begins (subst (λ x. Holds bs (all n) w d x) (sym s.put.there) (holds_kept bs w d v (kept_agree g.low kept) (λ k t. ranged_old u m.top n.top k t) g.holds)) in
+            made_here bs rate (adding 1 (came 0 (on d))) (on d) (1 + budget) u m.top (all n) 3 budget (record { value = r; top = n.top }) refl refl (omega (arith, g.dear))
+            (record {
+              now_used = w;
+              grown = grown_ranged u m.top n.top;
+              holds = side.holds bs (all n) w at r d t (run_ranged u m.top n.top at 3 (omega (arith, s.begins)) (omega (arith, s.begins, s.moved.top))) there;
+              above = omega (arith, s.moved.top);
+              within = top_within n;
+              thrifty = omega (arith, s.moved.top);
+            });
+      }
 
-    slot_holds : (bs : List ℕ) (u : Used) (d : Data) → Under u top → Holds bs m u d v → Holds bs n (ranged u top (top + 3)) d (loaded n top)
-    slot_holds bs u d low h = subst (λ x. Holds bs n (ranged u top (top + 3)) d x) (sym s.there) (holds_kept bs (ranged u top (top + 3)) d v (kept_agree low slot_kept) (λ k t. ranged_old u top (top + 3) k t) h)
+  pub side_short : Crowded m n 3 → Turns (λ d. came 0 (on d)) v (all m) m.top budget (all n) (Err NoRoom)
+  side_short c =
+      record {
+        kept = crowded_kept c;
+        means = λ bs rate u d g. lacks_room bs rate (adding 1 (came 0 (on d))) (on d) (1 + budget) u m.top (all n) 3 (omega arith) (omega (arith, g.dear)) (omega (arith, c.short, ap length c.words));
+      }
 
-    pub left_turns : Turns to_left v m top budget n (Ok (record { value = Left top; top = top + 3; left = budget }))
-    unfolding Holds
-    left_turns = record {
-      kept = slot_kept;
-      means = λ bs rate u d g.
-          let w : Used = ranged u top (top + 3) in
-          made_here bs rate (adding 1 (came 0 (left d))) (left d) (1 + budget) u top n 3 budget (record { value = Left top; top = top + 3 }) refl refl (omega (arith, g.dear))
-          (record { now_used = w; grown = grown_ranged u top (top + 3); holds = (top, refl, run_ranged u top (top + 3) top 3 (omega arith) (omega arith), slot_holds bs u d g.low g.holds); above = omega arith; within = omega (arith, s.long); thrifty = omega arith });
-    }
+pub left_side : (told : ℕ → Value → Type 0) → ((at : ℕ) (r : Value) → told at r → r ≡ Left at) → Sides told left
+unfolding Holds
+left_side told h = record { holds = λ bs m u at r d t run there. (at, h at r t, run, there) }
 
-    pub right_turns : Turns to_right v m top budget n (Ok (record { value = Right top; top = top + 3; left = budget }))
-    unfolding Holds
-    right_turns = record {
-      kept = slot_kept;
-      means = λ bs rate u d g.
-          let w : Used = ranged u top (top + 3) in
-          made_here bs rate (adding 1 (came 0 (right d))) (right d) (1 + budget) u top n 3 budget (record { value = Right top; top = top + 3 }) refl refl (omega (arith, g.dear))
-          (record { now_used = w; grown = grown_ranged u top (top + 3); holds = (top, refl, run_ranged u top (top + 3) top 3 (omega arith) (omega arith), slot_holds bs u d g.low g.holds); above = omega arith; within = omega (arith, s.long); thrifty = omega arith });
-    }
-
-  -- there was no room for one
-  module _ (n : List ℕ) (same : n ≡ m) (short : length m < top + 3) where
-    pub left_short : Turns to_left v m top budget n (Err NoRoom)
-    left_short = subst (λ x. Turns to_left v m top budget x (Err NoRoom)) (sym same) (record {
-      kept = kept_refl;
-      means = λ bs rate u d g.
-          lacks_room bs rate (adding 1 (came 0 (left d))) (left d) (1 + budget) u top m 3 (omega arith) (omega (arith, g.dear)) short;
-    })
-
-    pub right_short : Turns to_right v m top budget n (Err NoRoom)
-    right_short = subst (λ x. Turns to_right v m top budget x (Err NoRoom)) (sym same) (record {
-      kept = kept_refl;
-      means = λ bs rate u d g.
-          lacks_room bs rate (adding 1 (came 0 (right d))) (right d) (1 + budget) u top m 3 (omega arith) (omega (arith, g.dear)) short;
-    })
+pub right_side : (told : ℕ → Value → Type 0) → ((at : ℕ) (r : Value) → told at r → r ≡ Right at) → Sides told right
+unfolding Holds
+right_side told h = record { holds = λ bs m u at r d t run there. (at, h at r t, run, there) }

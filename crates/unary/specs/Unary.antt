@@ -1,15 +1,15 @@
 -- What operators on one value promise, told for whatever datum the value stands for. A unit of work for the operator was paid before.
-use Rattle.std.specs.Prelude.{◌≡◌, ℕ, ◌+◌, ◌*◌, ◌<◌, ◌≤◌, Bool, true, false, List, [], ◌∷◌, length, Result}
+use Rattle.std.specs.Prelude.{◌≡◌, ℕ, ◌+◌, ◌*◌, ◌≤◌, List, [], ◌∷◌, length, Result}
 use Rattle.query.specs.Data.{Name, Data, rec, left, right, Fields}
 use Rattle.query.specs.Query.{Op1, distinct, project, Got, came, adding, apply1}
-use Rattle.values.specs.Memory.{Used, Under, Spelled, Holds, Kept, Stored}
+use Rattle.values.specs.Memory.{Used, Under, Run, Spelled, Holds, Kept, loaded}
 use Rattle.values.specs.Height.{height}
 use Rattle.values.specs.declared.value.Place.{Place}
 use Rattle.values.specs.declared.value.Value.{Value}
 use Rattle.records.specs.Parts.{how_many_fields}
 use Rattle.records.specs.Records.{NamesStand}
 use Rattle.operators.specs.Means.{Means}
-use Rattle.operators.specs.declared.came.Came.{Came}
+use Rattle.operators.specs.Came.{Came}
 use Rattle.operators.specs.declared.came.Stop.{Stop}
 
 -- a value stands for some datum, in words that are in use below a top
@@ -54,10 +54,9 @@ pub record TurnsByNames (bs : List ℕ) (at k : ℕ) (v : Value) (m : List ℕ) 
   pub means : (ns : List Name) (rate : ℕ) (u : Used) (d : Data) → NamesStand bs at k ns → Given bs rate u d v m top → PaysFor rate (apply1 (project ns) d) →
       Means bs rate (adding 1 (apply1 (project ns) d)) (1 + budget) u top n r
 
--- a slot was written at a place, or there was no room for it and nothing was written
-abbrev pub SlotPut : ℕ → Value → List ℕ → List ℕ → Bool → Type 0
-SlotPut at v m n true = Stored at v m n × (at + 3 ≤ length m)
-SlotPut at v m n false = (n ≡ m) × (length m < at + 3)
+-- what is told of a slot's place holds a datum that is made of the slot's
+pub record Sides (told : ℕ → Value → Type 0) (on : Data → Data) : Type 0 where
+  pub holds : (bs m : List ℕ) (u : Used) (at : ℕ) (r : Value) (d : Data) → told at r → Run u at 3 → Holds bs m u d (loaded m at) → Holds bs m u (on d) r
 
 -- a datum on the left, and on the right
 abbrev pub to_left : Data → Got

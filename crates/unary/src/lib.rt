@@ -1,8 +1,9 @@
 // Operators on what one part of a query came to. The unit of work that the operator costs was paid before.
 #![tactic(auto)]
 
-ghost use Rattle.std.specs.Prelude.{◌++◌};
-ghost use Rattle.values.specs.Memory.{Space};
+ghost use Rattle.std.specs.Prelude.{◌≡◌};
+ghost use Rattle.values.specs.Lent.{all};
+ghost use Rattle.operators.specs.Came.{came_to};
 ghost use Rattle.operators.specs.Ready.{OneReady, Ones};
 
 pub mod of_bags;
@@ -11,10 +12,11 @@ pub mod plain;
 
 use crate::of_bags::{counted, flattened, in_a_bag, once, summed};
 use crate::of_records::{dotted, fielded, left_out, projected};
-use crate::plain::{negated, on_left, on_right};
+use crate::plain::{negated, sided};
 use format::node::Unary;
 use operators::came::{Came, Stop};
 use operators::op::Single;
+use values::lent::Memory;
 use values::value::{Place, Value};
 
 // An operator of the format. Its names stand in the request's bytes, five bytes after the beginning of its query.
@@ -24,44 +26,28 @@ fn unary_of(
     deep: usize,
     bytes: &[u8],
     v: Value,
-    base: &[u64],
-    mem: &mut [u64],
-    top: usize,
+    memory: &mut Memory,
     left: u64,
 ) -> Result<Came, Stop>
-    requires space { Space base.now mem.old top }
-    requires ready { OneReady bytes.now spot deep (Single.Op op) v (base.now ++ mem.old) top }
-    ensures { Ones bytes.now spot deep (Single.Op op) v (base.now ++ mem.old) top left (base.now ++ mem.new) result }
+    requires { OneReady bytes.now spot deep (Single.Op op) v (all memory.old) memory.old.top }
+    ensures frozen { memory.new.kept.now ≡ memory.old.kept.now }
+    ensures ones { Ones bytes.now spot deep (Single.Op op) v (all memory.old) memory.old.top left (all memory.new) (came_to memory.new.top result) }
 {
+    let named = |count| Place {
+        start: spot + 5,
+        count,
+    };
     match op {
-        Unary::Not => negated(v, top, left),
-        Unary::InBag => in_a_bag(v, base, mem, top, left),
-        Unary::Flat => flattened(v, base, mem, top, left),
-        Unary::Count => counted(v, top, left),
-        Unary::Sum => summed(v, base, mem, top, left),
-        Unary::Distinct => once(deep, bytes, v, base, mem, top, left),
-        Unary::Dot(count) => {
-            let name = Place {
-                start: spot + 5,
-                count,
-            };
-            dotted(name, bytes, v, base, mem, top, left)
-        }
-        Unary::AsField(count) => {
-            let name = Place {
-                start: spot + 5,
-                count,
-            };
-            fielded(name, v, base, mem, top, left)
-        }
-        Unary::Without(count) => {
-            let name = Place {
-                start: spot + 5,
-                count,
-            };
-            left_out(name, bytes, v, base, mem, top, left)
-        }
-        Unary::Only(many) => projected(spot + 5, many, bytes, v, base, mem, top, left),
+        Unary::Not => negated(v, left),
+        Unary::InBag => in_a_bag(v, memory, left),
+        Unary::Flat => flattened(v, memory, left),
+        Unary::Count => counted(v, left),
+        Unary::Sum => summed(v, memory, left),
+        Unary::Distinct => once(deep, bytes, v, memory, left),
+        Unary::Dot(count) => dotted(named(count), bytes, v, memory, left),
+        Unary::AsField(count) => fielded(named(count), v, memory, left),
+        Unary::Without(count) => left_out(named(count), bytes, v, memory, left),
+        Unary::Only(many) => projected(named(many), bytes, v, memory, left),
     }
 }
 
@@ -72,18 +58,16 @@ pub fn single_of(
     deep: usize,
     bytes: &[u8],
     v: Value,
-    base: &[u64],
-    mem: &mut [u64],
-    top: usize,
+    memory: &mut Memory,
     left: u64,
 ) -> Result<Came, Stop>
-    requires space { Space base.now mem.old top }
-    requires ready { OneReady bytes.now spot deep op v (base.now ++ mem.old) top }
-    ensures { Ones bytes.now spot deep op v (base.now ++ mem.old) top left (base.now ++ mem.new) result }
+    requires { OneReady bytes.now spot deep op v (all memory.old) memory.old.top }
+    ensures frozen { memory.new.kept.now ≡ memory.old.kept.now }
+    ensures ones { Ones bytes.now spot deep op v (all memory.old) memory.old.top left (all memory.new) (came_to memory.new.top result) }
 {
     match op {
-        Single::Op(unary) => unary_of(unary, spot, deep, bytes, v, base, mem, top, left),
-        Single::Left => on_left(v, base, mem, top, left),
-        Single::Right => on_right(v, base, mem, top, left),
+        Single::Op(unary) => unary_of(unary, spot, deep, bytes, v, memory, left),
+        Single::Left => sided(v, memory, left, Value::Left),
+        Single::Right => sided(v, memory, left, Value::Right),
     }
 }

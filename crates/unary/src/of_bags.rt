@@ -1,106 +1,79 @@
 // A value in a bag, and what comes of bags: what is in its bags, how many, their sum, each once.
-ghost use Rattle.std.specs.Prelude.{ℕ, ◌+◌, ◌≤◌, List, ◌++◌, length};
+ghost use Rattle.std.specs.Prelude.{◌≡◌, ℕ, ◌-◌, ◌<◌, ◌≤◌, List, MatchResult};
 ghost use Rattle.query.specs.Query.{apply1, in_bag, flat, count, sum};
-ghost use Rattle.values.specs.Memory.{Space};
+ghost use Rattle.values.specs.Lent.{all};
+ghost use Rattle.operators.specs.Came.{came_to};
+ghost use Rattle.operators.specs.declared.came.Stop.TheVariants as stops;
 ghost use Rattle.unary.specs.Unary.{Lies, Turns, TurnsOnce};
 
-use bags::flat::{Flattened, count_all, flat};
+use bags::flat::{NotFlat, count_all, flat};
 use bags::join::in_bag;
 use bags::once::distinct;
 use bags::sum::sum;
-use operators::came::{Came, Stop};
+use operators::came::{Came, Stop, pay};
 use operators::kinds::bag;
+use values::lent::Memory;
 use values::value::Value;
 
-pub fn in_a_bag(
-    v: Value,
-    base: &[u64],
-    mem: &mut [u64],
-    top: usize,
-    left: u64,
-) -> Result<Came, Stop>
-    requires space { Space base.now mem.old top }
-    requires within { top ≤ length base.now + length mem.old }
-    ensures { Turns (apply1 in_bag) v (base.now ++ mem.old) top left (base.now ++ mem.new) result }
+// What is left once so much is paid, where more may be due than any budget has.
+fn pay_all(left: u64, due: u128) -> Result<u64, Stop>
+    ensures { MatchResult result (λ rest. (due ≤ left) × (rest ≡ left - due)) (λ s. (s ≡ stops.Tired) × (left < due)) }
 {
-    match in_bag(base, mem, v, top) {
-        Some(made) => Ok(Came {
-            value: made.value,
-            top: made.top,
-            left,
-        }),
-        None => Err(Stop::NoRoom),
-    }
+    let due = u64::try_from(due).map_err(|_| Stop::Tired)?;
+    pay(left, due)
+}
+
+pub fn in_a_bag(v: Value, memory: &mut Memory, left: u64) -> Result<Came, Stop>
+    ensures frozen { memory.new.kept.now ≡ memory.old.kept.now }
+    ensures turns { Turns (apply1 in_bag) v (all memory.old) memory.old.top left (all memory.new) (came_to memory.new.top result) }
+{
+    let value = in_bag(memory, v).ok_or(Stop::NoRoom)?;
+    Ok(Came { value, left })
 }
 
 // What a bag's bags hold, in one bag. It is paid how many bags there are, and how many things come out, before they are copied.
-pub fn flattened(
-    v: Value,
-    base: &[u64],
-    mem: &mut [u64],
-    top: usize,
-    left: u64,
-) -> Result<Came, Stop>
-    requires space { Space base.now mem.old top }
-    requires lies { Lies v (base.now ++ mem.old) top }
-    ensures { Turns (apply1 flat) v (base.now ++ mem.old) top left (base.now ++ mem.new) result }
+pub fn flattened(v: Value, memory: &mut Memory, left: u64) -> Result<Came, Stop>
+    requires { Lies v (all memory.old) memory.old.top }
+    ensures frozen { memory.new.kept.now ≡ memory.old.kept.now }
+    ensures turns { Turns (apply1 flat) v (all memory.old) memory.old.top left (all memory.new) (came_to memory.new.top result) }
 {
     let place = bag(v)?;
-    let many = place.count as u64;
-    if left < many {
-        return Err(Stop::Tired);
-    }
-    let Some(out) = count_all(base, mem, place) else {
-        return Err(Stop::Wrong);
-    };
-    if ((left - many) as u128) < out {
-        return Err(Stop::Tired);
-    }
-    match flat(base, mem, place, top) {
-        Flattened::Made(made, _) => Ok(Came {
-            value: made.value,
-            top: made.top,
-            left: left - many - out as u64,
+    let rest = pay(left, place.count as u64)?;
+    let count = count_all(&memory.row(), place).ok_or(Stop::Wrong)?;
+    let left = pay_all(rest, count)?;
+    match flat(memory, place) {
+        Ok(made) => Ok(Came {
+            value: made.bag,
+            left,
         }),
-        Flattened::NoRoom(_) => Err(Stop::NoRoom),
-        Flattened::NoBag => Err(Stop::Wrong),
+        Err(NotFlat::NoRoom(_)) => Err(Stop::NoRoom),
+        Err(NotFlat::NoBag) => Err(Stop::Wrong),
     }
 }
 
 // How many things a bag holds.
-pub fn counted(v: Value, top: usize, left: u64) -> Result<Came, Stop>
-    ensures { (m : List ℕ) → Turns (apply1 count) v m top left m result }
+pub fn counted(v: Value, left: u64) -> Result<Came, Stop>
+    ensures { (m : List ℕ) (top : ℕ) → Turns (apply1 count) v m top left m (came_to top result) }
 {
-    let place = bag(v)?;
-    let many = place.count as u64;
-    if left < many {
-        return Err(Stop::Tired);
-    }
+    let many = bag(v)?.count as u64;
+    let left = pay(left, many)?;
     Ok(Came {
         value: Value::Number(many),
-        top,
-        left: left - many,
+        left,
     })
 }
 
-pub fn summed(v: Value, base: &[u64], mem: &[u64], top: usize, left: u64) -> Result<Came, Stop>
-    requires space { Space base.now mem.now top }
-    requires lies { Lies v (base.now ++ mem.now) top }
-    ensures { Turns (apply1 sum) v (base.now ++ mem.now) top left (base.now ++ mem.now) result }
+pub fn summed(v: Value, memory: &Memory, left: u64) -> Result<Came, Stop>
+    requires { Lies v (all memory.now) memory.now.top }
+    ensures { Turns (apply1 sum) v (all memory.now) memory.now.top left (all memory.now) (came_to memory.now.top result) }
 {
     let place = bag(v)?;
-    let many = place.count as u64;
-    if left < many {
-        return Err(Stop::Tired);
-    }
-    match sum(base, mem, place) {
-        Some(n) => Ok(Came {
-            value: Value::Number(n),
-            top,
-            left: left - many,
-        }),
-        None => Err(Stop::Wrong),
-    }
+    let left = pay(left, place.count as u64)?;
+    let total = sum(&memory.row(), place).ok_or(Stop::Wrong)?;
+    Ok(Came {
+        value: Value::Number(total),
+        left,
+    })
 }
 
 // Each thing of a bag once. It is paid for each pair of things, which may be more than any budget.
@@ -108,27 +81,16 @@ pub fn once(
     deep: usize,
     bytes: &[u8],
     v: Value,
-    base: &[u64],
-    mem: &mut [u64],
-    top: usize,
+    memory: &mut Memory,
     left: u64,
 ) -> Result<Came, Stop>
-    requires space { Space base.now mem.old top }
-    requires lies { Lies v (base.now ++ mem.old) top }
-    ensures { TurnsOnce bytes.now deep v (base.now ++ mem.old) top left (base.now ++ mem.new) result }
+    requires { Lies v (all memory.old) memory.old.top }
+    ensures frozen { memory.new.kept.now ≡ memory.old.kept.now }
+    ensures turns { TurnsOnce bytes.now deep v (all memory.old) memory.old.top left (all memory.new) (came_to memory.new.top result) }
 {
     let place = bag(v)?;
     let many = place.count as u128;
-    let pairs = many * many;
-    if (left as u128) < pairs {
-        return Err(Stop::Tired);
-    }
-    match distinct(bytes, base, mem, place, deep, top) {
-        Some(made) => Ok(Came {
-            value: made.value,
-            top: made.top,
-            left: left - pairs as u64,
-        }),
-        None => Err(Stop::NoRoom),
-    }
+    let left = pay_all(left, many * many)?;
+    let value = distinct(bytes, memory, place, deep).ok_or(Stop::NoRoom)?;
+    Ok(Came { value, left })
 }

@@ -1,72 +1,40 @@
 // What is not so, and a value on the left or on the right.
-ghost use Rattle.std.specs.Prelude.{ℕ, ◌+◌, ◌≤◌, List, ◌++◌, length};
-ghost use Rattle.query.specs.Query.{apply1, not_so};
-ghost use Rattle.values.specs.Memory.{Space};
-ghost use Rattle.unary.specs.Unary.{Turns, SlotPut, to_left, to_right};
+ghost use Rattle.std.specs.Prelude.{◌≡◌, ℕ, List};
+ghost use Rattle.query.specs.Data.{Data};
+ghost use Rattle.query.specs.Query.{apply1, not_so, came};
+ghost use Rattle.values.specs.Lent.{all};
+ghost use Rattle.operators.specs.Came.{came_to};
+ghost use Rattle.unary.specs.Unary.{Turns, Sides};
 
 use operators::came::{Came, Stop};
 use operators::kinds::truth;
-use values::memory::{size, store};
+use values::lent::Memory;
 use values::value::Value;
 
-pub fn negated(v: Value, top: usize, left: u64) -> Result<Came, Stop>
-    ensures { (m : List ℕ) → Turns (apply1 not_so) v m top left m result }
+pub fn negated(v: Value, left: u64) -> Result<Came, Stop>
+    ensures { (m : List ℕ) (top : ℕ) → Turns (apply1 not_so) v m top left m (came_to top result) }
 {
     let b = truth(v)?;
     Ok(Came {
         value: Value::Truth(!b),
-        top,
         left,
     })
 }
 
-// A value into a slot of free memory, if there is room.
-fn boxed(v: Value, base: &[u64], mem: &mut [u64], top: usize) -> bool
-    requires space { Space base.now mem.old top }
-    requires within { top ≤ length base.now + length mem.old }
-    ensures { SlotPut top v (base.now ++ mem.old) (base.now ++ mem.new) result }
-{
-    if size(base, mem) - top < 3 {
-        return false;
-    }
-    store(base, mem, top, v);
-    true
-}
-
-pub fn on_left(v: Value, base: &[u64], mem: &mut [u64], top: usize, left: u64) -> Result<Came, Stop>
-    requires space { Space base.now mem.old top }
-    requires within { top ≤ length base.now + length mem.old }
-    ensures { Turns to_left v (base.now ++ mem.old) top left (base.now ++ mem.new) result }
-{
-    if boxed(v, base, mem, top) {
-        Ok(Came {
-            value: Value::Left(top),
-            top: top + 3,
-            left,
-        })
-    } else {
-        Err(Stop::NoRoom)
-    }
-}
-
-pub fn on_right(
+// A value put into a slot, on the side that is told of the slot's place.
+pub fn sided<F: FnOnce(usize) -> Value>(
     v: Value,
-    base: &[u64],
-    mem: &mut [u64],
-    top: usize,
+    memory: &mut Memory,
     left: u64,
+    side: F,
 ) -> Result<Came, Stop>
-    requires space { Space base.now mem.old top }
-    requires within { top ≤ length base.now + length mem.old }
-    ensures { Turns to_right v (base.now ++ mem.old) top left (base.now ++ mem.new) result }
+    requires { F.IsAlwaysCallable side }
+    ensures frozen { memory.new.kept.now ≡ memory.old.kept.now }
+    ensures turns { (on : Data → Data) → Sides (λ at r. F.post side at r) on → Turns (λ d. came 0 (on d)) v (all memory.old) memory.old.top left (all memory.new) (came_to memory.new.top result) }
 {
-    if boxed(v, base, mem, top) {
-        Ok(Came {
-            value: Value::Right(top),
-            top: top + 3,
-            left,
-        })
-    } else {
-        Err(Stop::NoRoom)
-    }
+    let at = memory.push(v).ok_or(Stop::NoRoom)?;
+    Ok(Came {
+        value: side(at),
+        left,
+    })
 }

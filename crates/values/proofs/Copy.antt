@@ -2,12 +2,9 @@
 use Rattle.std.proofs.Common.{◌≡◌, ℕ, suc, ◌+◌, ◌*◌, ◌<◌, ◌≤◌, List, sym, ap, ◌∙◌, subst, arith, below_more}
 use Rattle.query.specs.Data.{Datas, none, more, join}
 use Rattle.values.specs.Memory.{Stored, Used, Holds, HoldsAll, loaded, Readable, Copied, Agree}
-use Rattle.values.proofs.Frame.{kept_refl, kept_trans, stored_kept, slot_same, holds_kept}
+use Rattle.values.proofs.Frame.{kept_trans, stored_kept, slot_same, holds_kept}
 use Rattle.values.specs.declared.value.Place.{Place}
 use Rattle.values.specs.declared.value.Value.{Value}
-
-pub copied_none : (p : Place) (to : ℕ) (m : List ℕ) → Copied p to 0 m m
-copied_none p to m = record { kept = kept_refl; there = λ i lt. absurd (let z : ⊥ = omega arith in z) }
 
 pub copied_more : (p : Place) (to i : ℕ) (m n n' : List ℕ) (x : Value) → Readable p to → i < p.count → Copied p to i m n → x ≡ loaded n (p.start + 3 * i) → Stored (to + 3 * i) x n n' → Copied p to (i + 1) m n'
 copied_more p to i m n n' x r lt c e s =

@@ -1,3 +1,5 @@
 pub mod Memory
 pub mod Height
 pub mod Making
+pub mod Lent
+pub mod Made

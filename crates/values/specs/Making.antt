@@ -3,7 +3,7 @@ use Rattle.std.specs.Prelude.{ℕ, ◌+◌, ◌*◌, ◌<◌, ◌≤◌, List, l
 use Rattle.query.specs.Data.{Data, Datas, Fields}
 use Rattle.values.specs.Memory.{Used, Under, Grown, Run, Holds, HoldsAll, HoldsFields}
 use Rattle.values.specs.declared.value.Place.{Place}
-use Rattle.values.specs.declared.value.Made.{Made}
+use Rattle.values.specs.Made.{Made}
 
 -- a value that stands for d was made above old, in at most `need` words
 pub record MadeAs (bs : List ℕ) (d : Data) (u : Used) (old need : ℕ) (m : List ℕ) (r : Made) : Type 0 where

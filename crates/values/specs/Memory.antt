@@ -1,6 +1,6 @@
 -- How data lie in memory. A slot is three words: a kind, and two numbers. A field is five: where its name stands in the request's bytes, how
 -- many bytes that has, and a slot. A bag is slots in a row, a record fields in a row. Texts stay in the request's bytes.
-use Rattle.std.specs.Prelude.{◌≡◌, ℕ, suc, ◌+◌, ◌*◌, ◌^◌, ◌<◌, ◌≤◌, Bool, true, false, cond, T, ◌⊎◌, List, length, take, drop, ◌==◌, slice_index}
+use Rattle.std.specs.Prelude.{◌≡◌, ℕ, suc, ◌+◌, ◌*◌, ◌<◌, ◌≤◌, Bool, true, false, cond, T, ◌⊎◌, List, length, take, drop, ◌==◌, slice_index}
 use Rattle.query.specs.Data.{Data, unit, num, truth, text, bag, rec, left, right, Datas, none, more, Fields, no_field, field}
 use Rattle.values.specs.declared.value.Place.{Place}
 use Rattle.values.specs.declared.value.Field.{Field}
@@ -30,24 +30,20 @@ pub record Kept (top : ℕ) (m n : List ℕ) : Type 0 where
   pub long : length n ≡ length m
   pub same : (k : ℕ) → k < top → slice_index n k ≡ slice_index m k
 
--- two parts of memory, of which the second is written from a place on
-pub record Space (b m : List ℕ) (top : ℕ) : Type 0 where
-  pub over : length b ≤ top
-  pub fits : length b + length m < 2 ^ 64
+-- one thing of so many words was written, and nothing else
+pub record Put {A : Type 0} (width : ℕ) (read : List ℕ → ℕ → A) (at : ℕ) (x : A) (m n : List ℕ) : Type 0 where
+  pub there : read n at ≡ x
+  pub long : length n ≡ length m
+  pub before : (k : ℕ) → k < at → slice_index n k ≡ slice_index m k
+  pub after : (k : ℕ) → at + width ≤ k → slice_index n k ≡ slice_index m k
 
 -- a slot was written, and nothing else
-pub record Stored (at : ℕ) (v : Value) (m n : List ℕ) : Type 0 where
-  pub there : loaded n at ≡ v
-  pub long : length n ≡ length m
-  pub before : (k : ℕ) → k < at → slice_index n k ≡ slice_index m k
-  pub after : (k : ℕ) → at + 3 ≤ k → slice_index n k ≡ slice_index m k
+abbrev pub Stored : ℕ → Value → List ℕ → List ℕ → Type 0
+Stored at v m n = Put 3 loaded at v m n
 
 -- a field was written, and nothing else
-pub record StoredField (at : ℕ) (f : Field) (m n : List ℕ) : Type 0 where
-  pub there : loaded_field n at ≡ f
-  pub long : length n ≡ length m
-  pub before : (k : ℕ) → k < at → slice_index n k ≡ slice_index m k
-  pub after : (k : ℕ) → at + 5 ≤ k → slice_index n k ≡ slice_index m k
+abbrev pub StoredField : ℕ → Field → List ℕ → List ℕ → Type 0
+StoredField at f m n = Put 5 loaded_field at f m n
 
 -- each slot of a place lies below another place
 pub record Readable (p : Place) (top : ℕ) : Type 0 where

@@ -1,13 +1,13 @@
 // What is handled: a value, small, whose parts lie in memory. Texts and names stay in the request's bytes.
 
 // So many things in a row, from a place on.
-#[derive(Clone, Copy)]
+#[derive(Clone, Copy, PartialEq, Eq)]
 pub struct Place {
     pub start: usize,
     pub count: usize,
 }
 
-#[derive(Clone, Copy)]
+#[derive(Clone, Copy, PartialEq, Eq)]
 pub enum Value {
     Nothing,
     Number(u64),
@@ -28,11 +28,4 @@ pub enum Value {
 pub struct Field {
     pub name: Place,
     pub value: Value,
-}
-
-// Something that was made in memory: its value, and where free memory begins after it.
-#[derive(Clone, Copy)]
-pub struct Made {
-    pub value: Value,
-    pub top: usize,
 }

@@ -1,13 +1,10 @@
 // The program: answers the requests of a file, a line for each.
 #![tactic(auto)]
 
-use serving::serve;
+use serving::landed::Landed;
+use serving::{serve, status};
 use std::process::ExitCode;
 
-// A fault has been told on standard error; what is left of it is the status.
 fn main(rt: HostRuntime) -> ExitCode {
-    match serve(&rt) {
-        Ok(()) => ExitCode::SUCCESS,
-        Err(_fault) => ExitCode::FAILURE,
-    }
+    status(serve::<Landed>(&rt))
 }

@@ -1,28 +1,30 @@
 -- Numbers at the front of others, written one after another.
-use Rattle.std.proofs.Common.{◌≡◌, ℕ, suc, ◌+◌, ◌-◌, ◌/◌, ◌%◌, ◌<◌, ◌≤◌, List, [], ◌∷◌, ◌++◌, length, get_or, take, drop, set, Some, None, sym, refl, ap, ◌∙◌, subst, ap₂, arith, length-append, length-drop, length-set, length-take-le, take_at, take-add, drop_at}
+use Rattle.std.proofs.Common.{◌≡◌, ℕ, zero, suc, ◌+◌, ◌-◌, ◌/◌, ◌%◌, ◌^◌, ◌<◌, ◌≤◌, List, [], ◌∷◌, ◌++◌, length, get_or, take, drop, set, Some, None, sym, refl, ap, ◌∙◌, subst, ap₂, arith, length-append, length-drop, length-set, length-take-le, take_at, take-add, drop_at, pow-suc}
+use Rattle.std.specs.Int.{w64, bytes_low_first, to_le_bytes}
+use Rattle.std.proofs.Math.Nat.{div-div-eq-div-mul}
 use lib.Seq.{take-append-le}
 use borrow.Rule.Slice.PartMut.{put_mid}
-use Rattle.std.proofs.lemmas.List.{append_assoc, append-nil, take_more, take_more_set, take_rest, take_all}
+use Rattle.std.proofs.lemmas.List.{take_more, take_more_set, take_rest, take_all}
 use Rattle.format.specs.Coding.{le, name}
 use Rattle.format.specs.Bytes.{length_le}
 use Rattle.values.specs.Memory.{Spelled}
 use Rattle.values.specs.declared.value.Place.{Place}
 use Rattle.writing.specs.Puts.{BeginsWith, PutsName}
 
--- one byte more of a number
-pub number_more : (out : List ℕ) (i w n rest : ℕ) → i < w → w ≤ length out → take i out ++ le (w - i) rest ≡ le w n → take (i + 1) (set out i (rest % 256)) ++ le (w - (i + 1)) (rest / 256) ≡ le w n
+-- the bytes that the library makes of a number are those of the format
+le_low : (w i n m : ℕ) → m ≡ n / 256 ^ i → bytes_low_first i w n ≡ le w m
 unfolding le
-number_more out i w n rest lt l e =
-    let k : w - i ≡ suc (w - (i + 1)) = omega arith in
-    ap (λ v. v ++ le (w - (i + 1)) (rest / 256)) (take_more_set out i (rest % 256) (omega arith))
-    ∙ append_assoc (take i out) (rest % 256 ∷ []) (le (w - (i + 1)) (rest / 256))
-    ∙ ap (λ v. take i out ++ le v rest) (sym k) ∙ e
+le_low zero i n m e = refl
+le_low (suc w) zero n m e = ap₂ (λ (x : ℕ) (ys : List ℕ). x ∷ ys) (omega (arith, e)) (le_low w 1 n (m / 256) (omega (arith, e)))
+le_low (suc w) (suc i) n m e =
+    let s : m / 256 ≡ n / 256 ^ suc (suc i) = ap (λ (v : ℕ). v / 256) e ∙ div-div-eq-div-mul n (256 ^ suc i) 256 ∙ ap (λ (v : ℕ). n / v) (sym (pow-suc 256 (suc i))) in
+    ap₂ (λ (x : ℕ) (ys : List ℕ). x ∷ ys) (ap (λ (v : ℕ). v % 256) (sym e)) (le_low w (suc (suc i)) n (m / 256) s)
 
-pub number_all : (out : List ℕ) (i w n rest : ℕ) → i ≡ w → take i out ++ le (w - i) rest ≡ le w n → take w out ≡ le w n
-unfolding le
-number_all out i w n rest q e =
-    let k : w - i ≡ 0 = omega arith in
-    ap (λ v. take v out) (sym q) ∙ sym (append-nil (take i out)) ∙ ap (λ v. take i out ++ le v rest) (sym k) ∙ e
+pub le_8 : (n : ℕ) → to_le_bytes w64 n ≡ le 8 n
+le_8 n = le_low 8 0 n n (omega arith)
+
+pub le_4 : (n : ℕ) → take 4 (to_le_bytes w64 n) ≡ le 4 n
+le_4 n = le_low 4 0 n n (omega arith)
 
 -- what is written to the part from n on stands after the first n
 pub part_front : (out part : List ℕ) (n k e : ℕ) → n ≤ length out → e ≤ length part → take (n + e) (put_mid n k out part) ≡ take n out ++ take e part
@@ -64,38 +66,29 @@ pub spelled_long : {bs t : List ℕ} {start count : ℕ} → Spelled bs t start 
 spelled_long {bs} {t} {start} {count} s = ap length s.is ∙ length-take-le count (drop start bs) (omega (arith, s.within, length-drop start bs))
 
 module _ (bs : List ℕ) (p : Place) (was : List ℕ) where
-  pub name_outside : (now : List ℕ) → length bs < p.start + p.count → PutsName bs p was now None
-  name_outside now l = record { means = λ t s. absurd (let z : ⊥ = omega (arith, s.within) in z) }
-
   pub name_no_room : (now : List ℕ) → length was < 4 + p.count → PutsName bs p was now None
   name_no_room now l = record { means = λ t s. omega (arith, spelled_long s, length-append (le 4 (length t)) t, length_le 4 (length t)) }
 
-  pub name_put : (b part now : List ℕ) (k m n : ℕ) → length b ≡ length was → 4 + p.count ≤ length was → m ≡ p.count → n ≡ 4 + p.count → take 4 b ≡ le 4 p.count
-      → length part ≡ length (take (length b - 4) (drop 4 b)) → take (length (take m (drop p.start bs))) part ≡ take m (drop p.start bs) → now ≡ put_mid 4 k b part → PutsName bs p was now (Some n)
-  name_put b part now k m n long room mq nq first lp second z = record {
+  pub name_put : (nm b part : List ℕ) (k : ℕ) → Spelled bs nm p.start p.count → length b ≡ length was → 4 + length nm ≤ length was → take 4 b ≡ take 4 (to_le_bytes w64 (length nm))
+      → length part ≡ length (take (length b - 4) (drop 4 b)) → take (length nm) part ≡ nm → PutsName bs p was (put_mid 4 k b part) (Some (4 + length nm))
+  name_put nm b part k x long room first lp second = record {
     means = λ t s.
-        let l = spelled_long s in
-        let q : take m (drop p.start bs) ≡ t = ap (λ v. take v (drop p.start bs)) mq ∙ sym s.is in
-        let w : take (length t) part ≡ t = ap (λ v. take (length v) part) (sym q) ∙ second ∙ q in
-        let r : 4 + length t ≡ n = omega (arith, nq) in
-        let y = then_put (le 4 (length t)) t was b part 4 long (record { end = sym (length_le 4 (length t)); within = omega arith; is = first ∙ ap (le 4) (sym l) }) k (length t) lp
-        (record { end = refl; within = omega (arith, ap length (take_rest b 4), length-drop 4 b); is = w }) in
-        subst (λ v. BeginsWith (name.write t) was v n) (sym z) (subst (λ v. BeginsWith (name.write t) was (put_mid 4 k b part) v) r y);
+        let q : nm ≡ t = x.is ∙ sym s.is in
+        let y = then_put (le 4 (length nm)) nm was b part 4 long (record { end = sym (length_le 4 (length nm)); within = omega arith; is = first ∙ le_4 (length nm) }) k (length nm) lp
+        (record { end = refl; within = omega (arith, ap length (take_rest b 4), length-drop 4 b); is = second }) in
+        subst (λ v. BeginsWith (name.write v) was (put_mid 4 k b part) (4 + length nm)) q y;
   }
 
-pub one_put : (a : List ℕ) (tag : ℕ) → 1 ≤ length a → BeginsWith (tag ∷ []) a (set a 0 tag) 1
+one_put : (a : List ℕ) (tag : ℕ) → 1 ≤ length a → BeginsWith (tag ∷ []) a (set a 0 tag) 1
 one_put a tag l = record { end = refl; within = l; is = take_more_set a 0 tag (omega arith) }
 
-pub tagged_put : (a part : List ℕ) (tag w n k : ℕ) → 1 + w ≤ length a → length part ≡ length (take (length (set a 0 tag) - 1) (drop 1 (set a 0 tag))) → take w part ≡ le w n → BeginsWith (tag ∷ le w n) a (put_mid 1 k (set a 0 tag) part) (1 + w)
-tagged_put a part tag w n k l lp e =
+pub tagged_put : (a part t : List ℕ) (tag k : ℕ) → 1 + length t ≤ length a → length part ≡ length (take (length (set a 0 tag) - 1) (drop 1 (set a 0 tag))) → take (length t) part ≡ t → BeginsWith (tag ∷ t) a (put_mid 1 k (set a 0 tag) part) (1 + length t)
+tagged_put a part t tag k l lp e =
     let s = length-set a 0 tag in
-    then_put (tag ∷ []) (le w n) a (set a 0 tag) part 1 s (one_put a tag (omega arith)) k w lp
-    (record { end = sym (length_le w n); within = omega (arith, ap length (take_rest (set a 0 tag) 1), length-drop 1 (set a 0 tag)); is = e })
+    then_put (tag ∷ []) t a (set a 0 tag) part 1 s (one_put a tag (omega arith)) k (length t) lp
+    (record { end = refl; within = omega (arith, ap length (take_rest (set a 0 tag) 1), length-drop 1 (set a 0 tag)); is = e })
 
--- what was written to a part lies within the whole, which is as long as it was
-pub part_within : (a b : List ℕ) (n e : ℕ) → length b ≡ length a → n ≤ length a → e ≤ length (take (length b - n) (drop n b)) → n + e ≤ length a
-part_within a b n e long l m = omega (arith, ap length (take_rest b n), length-drop n b)
-
+-- the whole is as long as it was after a part was written to
 pub part_long : (b part : List ℕ) (n : ℕ) → n ≤ length b → length part ≡ length (take (length b - n) (drop n b)) → length (put_mid n (length b - n) b part) ≡ length b
 part_long b part n l e =
     omega (arith, length-append (take n b) (part ++ drop (length b - n) (drop n b)), length-append part (drop (length b - n) (drop n b)), length-take-le n b l, ap length (take_rest b n), length-drop n b, length-drop (length b - n) (drop n b))

@@ -2,6 +2,7 @@
 use Rattle.std.proofs.Common.{◌≡◌, ℕ, ◌+◌, ◌-◌, ◌*◌, ◌<◌, ◌≤◌, List, [], ◌∷◌, ◌++◌, length, take, drop, Some, None, Option, sym, refl, ap, ◌∙◌, subst, arith, length-append, length-drop, length-take-le}
 use borrow.Rule.Slice.PartMut.{put_mid}
 use Rattle.std.proofs.lemmas.List.{append_assoc, append-nil, take_rest}
+use Rattle.std.specs.Int.{w64, to_le_bytes}
 use Rattle.query.specs.Data.{bag, rec, Datas, Fields}
 use Rattle.format.specs.Coding.{le, name, writes}
 use Rattle.format.specs.Wire.{names, write_data, write_datas, write_values}
@@ -12,8 +13,8 @@ use Rattle.values.specs.declared.value.Value.{Value}
 use Rattle.values.specs.declared.value.Value.TheVariants.{Bag, Record}
 use Rattle.writing.specs.Puts.{BeginsWith, Put, PutsName}
 use Rattle.writing.specs.Writes.{WritesAny, WritesNames}
-use Rattle.writing.proofs.Fronts.{then_put, then_none, none_first}
-use Rattle.writing.proofs.Views.{held, many_things, many_fields, in_reach, next_slots, next_fields, First, first, nothing_left, FirstField, first_field, no_fields_left}
+use Rattle.writing.proofs.Fronts.{le_4, then_put, then_none, none_first}
+use Rattle.writing.proofs.Views.{held, many_things, many_fields, past, moved_things, moved_fields, First, first, nothing_left, FirstField, first_field, no_fields_left}
 
 -- so much is written, and the rest of it is to come
 module _ (was now : List ℕ) (n : ℕ) (long : length now ≡ length was) (within : n ≤ length was) where
@@ -31,9 +32,6 @@ module _ (was now : List ℕ) (n : ℕ) (long : length now ≡ length was) (with
 
     pub goes_on : (k i : ℕ) → length part ≡ length (take (length now - n) (drop n now)) → BeginsWith x (take (length now - n) (drop n now)) part i → take (n + i) (put_mid n k now part) ++ rest ≡ all
     goes_on k i lp f = ap (λ y. y ++ rest) (then_put (take n now) x was now part n long so_far k i lp f).is ∙ append_assoc (take n now) x rest ∙ e
-
-    pub goes_within : (i : ℕ) → length part ≡ length (take (length now - n) (drop n now)) → i ≤ length (take (length now - n) (drop n now)) → n + i ≤ length was
-    goes_within i lp l = omega (arith, ap length (take_rest now n), length-drop n now)
 
 -- a bag's things, a record's fields lie at a place
 pub record BagThere (bs m : List ℕ) (p : Place) : Type 0 where
@@ -66,58 +64,57 @@ on_record bs m p was now r f = record {
 
 -- a bag
 module _ (bs m : List ℕ) (p : Place) where
-  bag_bytes : (g : BagThere bs m p) → (5 ∷ le 4 p.count) ++ write_datas g.things ≡ write_data (bag g.things)
+  bag_bytes : (g : BagThere bs m p) → (5 ∷ take 4 (to_le_bytes w64 p.count)) ++ write_datas g.things ≡ write_data (bag g.things)
   unfolding write_data
-  bag_bytes g = ap (λ k. 5 ∷ (le 4 k ++ write_datas g.things)) (sym (many_things bs m g.used g.things p.start p.count g.lie))
+  bag_bytes g = ap (λ v. 5 ∷ (v ++ write_datas g.things)) (le_4 p.count) ∙ ap (λ k. 5 ∷ (le 4 k ++ write_datas g.things)) (sym (many_things bs m g.used g.things p.start p.count g.lie))
 
-  pub bag_none : (was now : List ℕ) → length was < length (5 ∷ le 4 p.count) → WritesAny bs m (Bag p) was now None
-  bag_none was now l = on_bag bs m p was now None (λ g. subst (λ v. length was < length v) (bag_bytes g) (none_first (5 ∷ le 4 p.count) (write_datas g.things) was l))
+  pub bag_none : (was now : List ℕ) → length was < length (5 ∷ take 4 (to_le_bytes w64 p.count)) → WritesAny bs m (Bag p) was now None
+  bag_none was now l = on_bag bs m p was now None (λ g. subst (λ v. length was < length v) (bag_bytes g) (none_first (5 ∷ take 4 (to_le_bytes w64 p.count)) (write_datas g.things) was l))
 
-  pub record BagGoing (g : BagThere bs m p) (now : List ℕ) (i n at : ℕ) : Type 0 where
+  pub bag_past : (was now : List ℕ) → 0 < p.count → length m < p.start + 3 * p.count → WritesAny bs m (Bag p) was now None
+  bag_past was now z l = on_bag bs m p was now None (λ g. absurd (past g.used p.start (3 * p.count) (length m) (omega arith) l g.run g.low))
+
+  pub record BagGoing (g : BagThere bs m p) (now : List ℕ) (i n : ℕ) : Type 0 where
     pub to_come : Datas
-    pub run : Run g.used at (3 * (p.count - i))
-    pub lie : HoldsAll bs m g.used to_come at (p.count - i)
+    pub run : Run g.used (p.start + 3 * i) (3 * (p.count - i))
+    pub lie : HoldsAll bs m g.used to_come (p.start + 3 * i) (p.count - i)
     pub written : take n now ++ write_datas to_come ≡ write_data (bag g.things)
 
-  -- `i` things are written in `n` numbers, and the next lies at `at`
-  pub record BagTurn (was now : List ℕ) (i n at : ℕ) : Type 0 where
+  -- `i` things are written in `n` numbers
+  pub record BagTurn (was now : List ℕ) (i n : ℕ) : Type 0 where
     pub some : 1 ≤ n
     pub long : length now ≡ length was
     pub within : n ≤ length was
-    pub going : (g : BagThere bs m p) → BagGoing g now i n at
+    pub going : (g : BagThere bs m p) → BagGoing g now i n
 
-  pub bag_begin : (was now : List ℕ) (n : ℕ) → length now ≡ length was → BeginsWith (5 ∷ le 4 p.count) was now n → BagTurn was now 0 n p.start
+  pub bag_begin : (was now : List ℕ) (n : ℕ) → length now ≡ length was → BeginsWith (5 ∷ take 4 (to_le_bytes w64 p.count)) was now n → BagTurn was now 0 n
   bag_begin was now n long f = record {
     some = omega (arith, f.end);
     long = long;
     within = f.within;
     going = λ g.
-        let e : p.count ≡ p.count - 0 = omega arith in
         record {
           to_come = g.things;
-          run = subst (λ k. Run g.used p.start (3 * k)) e g.run;
-          lie = subst (λ k. HoldsAll bs m g.used g.things p.start k) e g.lie;
+          run = record { used = λ j x y. g.run.used j (omega arith) (omega arith) };
+          lie = moved_things bs m g.used g.things _ _ _ _ (omega arith) (omega arith) g.lie;
           written = ap (λ v. v ++ write_datas g.things) f.is ∙ bag_bytes g;
         };
   }
 
-  module _ (was now : List ℕ) (i n at : ℕ) (t : BagTurn was now i n at) where
+  module _ (was now : List ℕ) (i n : ℕ) (t : BagTurn was now i n) where
     pub bag_whole : i ≡ p.count → WritesAny bs m (Bag p) was now (Some n)
     bag_whole e = on_bag bs m p was now (Some n) (λ g.
         let w = t.going g in
-        whole was now n t.long t.within (write_data (bag g.things)) (write_datas w.to_come) w.written (nothing_left bs m g.used w.to_come at (p.count - i) (omega arith) w.lie))
+        whole was now n t.long t.within (write_data (bag g.things)) (write_datas w.to_come) w.written (nothing_left bs m g.used w.to_come (p.start + 3 * i) (p.count - i) (omega arith) w.lie))
 
     module _ (lt : i < p.count) where
-      pub bag_outside : (now' : List ℕ) → length m < at + 3 → WritesAny bs m (Bag p) was now' None
-      bag_outside now' l = on_bag bs m p was now' None (λ g. let w = t.going g in absurd (let z : ⊥ = omega (arith, in_reach bs m g.used at (p.count - i) 3 (omega arith) (omega arith) w.run (omega arith) g.low) in z))
-
-      bag_next : (g : BagThere bs m p) → First bs m g.used (t.going g).to_come at (p.count - i)
-      bag_next g = first bs m g.used (t.going g).to_come at (p.count - i) (omega arith) (t.going g).lie
+      bag_next : (g : BagThere bs m p) → First bs m g.used (t.going g).to_come (p.start + 3 * i) (p.count - i)
+      bag_next g = first bs m g.used (t.going g).to_come (p.start + 3 * i) (p.count - i) (omega arith) (t.going g).lie
 
       bag_split : (g : BagThere bs m p) → take n now ++ (write_data (bag_next g).item ++ write_datas (bag_next g).others) ≡ write_data (bag g.things)
       bag_split g = ap (λ v. take n now ++ v) (sym (bag_next g).written) ∙ (t.going g).written
 
-      module _ (v : Value) (q : v ≡ loaded m at) (part : List ℕ) where
+      module _ (v : Value) (q : v ≡ loaded m (p.start + 3 * i)) (part : List ℕ) where
         bag_item : (g : BagThere bs m p) (r : Option ℕ) → WritesAny bs m v (take (length now - n) (drop n now)) part r → Put (write_data (bag_next g).item) (take (length now - n) (drop n now)) part r
         bag_item g r f = let x = bag_next g in f.means x.item g.used (subst (λ y. Holds bs m g.used x.item y) (sym q) x.holds) g.low
 
@@ -126,7 +123,7 @@ module _ (bs m : List ℕ) (p : Place) where
             stops was now n t.long t.within (write_data (bag g.things)) (write_data (bag_next g).item) (write_datas (bag_next g).others) part (bag_split g) (bag_item g None f))
 
         pub bag_turned : (k e : ℕ) → length part ≡ length (take (length now - n) (drop n now)) → e ≤ length (take (length now - n) (drop n now)) → length (put_mid n k now part) ≡ length now → WritesAny bs m v (take (length now - n) (drop n now)) part (Some e)
-            → BagTurn was (put_mid n k now part) (i + 1) (n + e) (at + 3)
+            → BagTurn was (put_mid n k now part) (i + 1) (n + e)
         bag_turned k e lp lq same f = record {
           some = omega (arith, t.some);
           long = same ∙ t.long;
@@ -134,11 +131,10 @@ module _ (bs m : List ℕ) (p : Place) where
           going = λ g.
               let w = t.going g in
               let x = bag_next g in
-              let z : p.count - i - 1 ≡ p.count - (i + 1) = omega arith in
               record {
                 to_come = x.others;
-                run = subst (λ y. Run g.used (at + 3) (3 * y)) z (next_slots bs m g.used at (p.count - i) w.run);
-                lie = subst (λ y. HoldsAll bs m g.used x.others (at + 3) y) z x.lie;
+                run = record { used = λ j y z. w.run.used j (omega arith) (omega arith) };
+                lie = moved_things bs m g.used x.others _ _ _ _ (omega arith) (omega arith) x.lie;
                 written = goes_on was now n t.long t.within (write_data (bag g.things)) (write_data x.item) (write_datas x.others) part (bag_split g) k e lp (bag_item g (Some e) f);
               };
         }
@@ -148,45 +144,28 @@ module _ (bs m : List ℕ) (p : Place) where
   on_names : (was now : List ℕ) (r : Option ℕ) → ((g : RecordThere bs m p) → Put (writes name (names g.fields)) was now r) → WritesNames bs m p was now r
   on_names was now r f = record { means = λ fs u run lie low. f (record { fields = fs; used = u; run = run; lie = lie; low = low }) }
 
-  pub record NamesGoing (g : RecordThere bs m p) (now : List ℕ) (i n at : ℕ) : Type 0 where
+  pub record NamesGoing (g : RecordThere bs m p) (now : List ℕ) (i n : ℕ) : Type 0 where
     pub to_come : Fields
-    pub run : Run g.used at (5 * (p.count - i))
-    pub lie : HoldsFields bs m g.used to_come at (p.count - i)
+    pub run : Run g.used (p.start + 5 * i) (5 * (p.count - i))
+    pub lie : HoldsFields bs m g.used to_come (p.start + 5 * i) (p.count - i)
     pub written : take n now ++ writes name (names to_come) ≡ writes name (names g.fields)
 
-  -- `i` names are written in `n` numbers, and the next field lies at `at`
-  pub record NamesTurn (was now : List ℕ) (i n at : ℕ) : Type 0 where
+  -- `i` names are written in `n` numbers
+  pub record NamesTurn (was now : List ℕ) (i n : ℕ) : Type 0 where
     pub long : length now ≡ length was
     pub within : n ≤ length was
-    pub going : (g : RecordThere bs m p) → NamesGoing g now i n at
+    pub going : (g : RecordThere bs m p) → NamesGoing g now i n
 
-  pub names_begin : (was : List ℕ) → NamesTurn was was 0 0 p.start
-  names_begin was = record {
-    long = refl;
-    within = omega arith;
-    going = λ g.
-        let e : p.count ≡ p.count - 0 = omega arith in
-        record {
-          to_come = g.fields;
-          run = subst (λ k. Run g.used p.start (5 * k)) e g.run;
-          lie = subst (λ k. HoldsFields bs m g.used g.fields p.start k) e g.lie;
-          written = refl;
-        };
-  }
-
-  module _ (was now : List ℕ) (i n at : ℕ) (t : NamesTurn was now i n at) where
+  module _ (was now : List ℕ) (i n : ℕ) (t : NamesTurn was now i n) where
     pub names_whole : i ≡ p.count → WritesNames bs m p was now (Some n)
     names_whole e = on_names was now (Some n) (λ g.
         let w = t.going g in
-        whole was now n t.long t.within (writes name (names g.fields)) (writes name (names w.to_come)) w.written (no_fields_left bs m g.used w.to_come at (p.count - i) (omega arith) w.lie).1)
+        whole was now n t.long t.within (writes name (names g.fields)) (writes name (names w.to_come)) w.written (no_fields_left bs m g.used w.to_come (p.start + 5 * i) (p.count - i) (omega arith) w.lie).1)
 
     module _ (lt : i < p.count) where
-      pub names_outside : (now' : List ℕ) → length m < at + 5 → WritesNames bs m p was now' None
-      names_outside now' l = on_names was now' None (λ g. let w = t.going g in absurd (let z : ⊥ = omega (arith, in_reach bs m g.used at (p.count - i) 5 (omega arith) (omega arith) w.run (omega arith) g.low) in z))
-
-      module _ (f : Field) (q : f ≡ loaded_field m at) (part : List ℕ) where
-        names_next : (g : RecordThere bs m p) → FirstField bs m g.used (t.going g).to_come f at (p.count - i)
-        names_next g = first_field bs m g.used (t.going g).to_come f at (p.count - i) (omega arith) q (t.going g).lie
+      module _ (f : Field) (q : f ≡ loaded_field m (p.start + 5 * i)) (part : List ℕ) where
+        names_next : (g : RecordThere bs m p) → FirstField bs m g.used (t.going g).to_come f (p.start + 5 * i) (p.count - i)
+        names_next g = first_field bs m g.used (t.going g).to_come f (p.start + 5 * i) (p.count - i) (omega arith) q (t.going g).lie
 
         names_split : (g : RecordThere bs m p) → take n now ++ (name.write (names_next g).nm ++ writes name (names (names_next g).others)) ≡ writes name (names g.fields)
         names_split g = ap (λ v. take n now ++ v) (sym (names_next g).named) ∙ (t.going g).written
@@ -197,89 +176,88 @@ module _ (bs m : List ℕ) (p : Place) where
             stops was now n t.long t.within (writes name (names g.fields)) (name.write x.nm) (writes name (names x.others)) part (names_split g) (h.means x.nm x.spelled))
 
         pub names_turned : (k e : ℕ) → length part ≡ length (take (length now - n) (drop n now)) → e ≤ length (take (length now - n) (drop n now)) → length (put_mid n k now part) ≡ length now → PutsName bs f.name (take (length now - n) (drop n now)) part (Some e)
-            → NamesTurn was (put_mid n k now part) (i + 1) (n + e) (at + 5)
+            → NamesTurn was (put_mid n k now part) (i + 1) (n + e)
         names_turned k e lp lq same h = record {
           long = same ∙ t.long;
           within = omega (arith, ap length (take_rest now n), length-drop n now, t.long, t.within);
           going = λ g.
               let w = t.going g in
               let x = names_next g in
-              let z : p.count - i - 1 ≡ p.count - (i + 1) = omega arith in
               record {
                 to_come = x.others;
-                run = subst (λ y. Run g.used (at + 5) (5 * y)) z (next_fields bs m g.used at (p.count - i) w.run);
-                lie = subst (λ y. HoldsFields bs m g.used x.others (at + 5) y) z x.lie;
+                run = record { used = λ j y z. w.run.used j (omega arith) (omega arith) };
+                lie = moved_fields bs m g.used x.others _ _ _ _ (omega arith) (omega arith) x.lie;
                 written = goes_on was now n t.long t.within (writes name (names g.fields)) (name.write x.nm) (writes name (names x.others)) part (names_split g) k e lp (h.means x.nm x.spelled);
               };
         }
 
 -- a record
 module _ (bs m : List ℕ) (p : Place) where
-  record_head : (g : RecordThere bs m p) → (6 ∷ le 4 p.count) ++ (writes name (names g.fields) ++ write_values g.fields) ≡ write_data (rec g.fields)
+  record_head : (g : RecordThere bs m p) → (6 ∷ take 4 (to_le_bytes w64 p.count)) ++ (writes name (names g.fields) ++ write_values g.fields) ≡ write_data (rec g.fields)
   unfolding write_data
   record_head g =
       let ns = names g.fields in
-      ap (λ k. 6 ∷ (le 4 k ++ (writes name ns ++ write_values g.fields))) (sym (many_fields bs m g.used g.fields p.start p.count g.lie))
+      ap (λ v. 6 ∷ (v ++ (writes name ns ++ write_values g.fields))) (le_4 p.count)
+      ∙ ap (λ k. 6 ∷ (le 4 k ++ (writes name ns ++ write_values g.fields))) (sym (many_fields bs m g.used g.fields p.start p.count g.lie))
       ∙ ap (λ v. 6 ∷ v) (sym (append_assoc (le 4 (length ns)) (writes name ns) (write_values g.fields)))
 
-  pub record_none : (was now : List ℕ) → length was < length (6 ∷ le 4 p.count) → WritesAny bs m (Record p) was now None
+  pub record_none : (was now : List ℕ) → length was < length (6 ∷ take 4 (to_le_bytes w64 p.count)) → WritesAny bs m (Record p) was now None
   record_none was now l = on_record bs m p was now None (λ g.
-      subst (λ v. length was < length v) (record_head g) (none_first (6 ∷ le 4 p.count) (writes name (names g.fields) ++ write_values g.fields) was l))
+      subst (λ v. length was < length v) (record_head g) (none_first (6 ∷ take 4 (to_le_bytes w64 p.count)) (writes name (names g.fields) ++ write_values g.fields) was l))
+
+  pub record_past : (was now : List ℕ) → 0 < p.count → length m < p.start + 5 * p.count → WritesAny bs m (Record p) was now None
+  record_past was now z l = on_record bs m p was now None (λ g. absurd (past g.used p.start (5 * p.count) (length m) (omega arith) l g.run g.low))
 
   said_names : (part was : List ℕ) (r : Option ℕ) → WritesNames bs m p was part r → (g : RecordThere bs m p) → Put (writes name (names g.fields)) was part r
   said_names part was r f g = f.means g.fields g.used g.run g.lie g.low
 
-  pub record RecordGoing (g : RecordThere bs m p) (now : List ℕ) (i n at : ℕ) : Type 0 where
+  pub record RecordGoing (g : RecordThere bs m p) (now : List ℕ) (i n : ℕ) : Type 0 where
     pub to_come : Fields
-    pub run : Run g.used at (5 * (p.count - i))
-    pub lie : HoldsFields bs m g.used to_come at (p.count - i)
+    pub run : Run g.used (p.start + 5 * i) (5 * (p.count - i))
+    pub lie : HoldsFields bs m g.used to_come (p.start + 5 * i) (p.count - i)
     pub written : take n now ++ write_values to_come ≡ write_data (rec g.fields)
 
-  -- the names and `i` values are written in `n` numbers, and the next field lies at `at`
-  pub record RecordTurn (was now : List ℕ) (i n at : ℕ) : Type 0 where
+  -- the names and `i` values are written in `n` numbers
+  pub record RecordTurn (was now : List ℕ) (i n : ℕ) : Type 0 where
     pub some : 1 ≤ n
     pub long : length now ≡ length was
     pub within : n ≤ length was
-    pub going : (g : RecordThere bs m p) → RecordGoing g now i n at
+    pub going : (g : RecordThere bs m p) → RecordGoing g now i n
 
-  module _ (was b : List ℕ) (n : ℕ) (long : length b ≡ length was) (f : BeginsWith (6 ∷ le 4 p.count) was b n) (part : List ℕ) where
+  module _ (was b : List ℕ) (n : ℕ) (long : length b ≡ length was) (f : BeginsWith (6 ∷ take 4 (to_le_bytes w64 p.count)) was b n) (part : List ℕ) where
     pub record_unnamed : (now : List ℕ) → WritesNames bs m p (take (length b - n) (drop n b)) part None → WritesAny bs m (Record p) was now None
     record_unnamed now h = on_record bs m p was now None (λ g.
         let ns = writes name (names g.fields) in
-        let z = then_none (6 ∷ le 4 p.count) ns was b part n long f (said_names part _ None h g) in
-        subst (λ v. length was < length v) (append_assoc (6 ∷ le 4 p.count) ns (write_values g.fields) ∙ record_head g) (none_first ((6 ∷ le 4 p.count) ++ ns) (write_values g.fields) was z))
+        let z = then_none (6 ∷ take 4 (to_le_bytes w64 p.count)) ns was b part n long f (said_names part _ None h g) in
+        subst (λ v. length was < length v) (append_assoc (6 ∷ take 4 (to_le_bytes w64 p.count)) ns (write_values g.fields) ∙ record_head g) (none_first ((6 ∷ take 4 (to_le_bytes w64 p.count)) ++ ns) (write_values g.fields) was z))
 
     pub record_begin : (k e : ℕ) → length part ≡ length (take (length b - n) (drop n b)) → e ≤ length (take (length b - n) (drop n b)) → length (put_mid n k b part) ≡ length b → WritesNames bs m p (take (length b - n) (drop n b)) part (Some e)
-        → RecordTurn was (put_mid n k b part) 0 (n + e) p.start
+        → RecordTurn was (put_mid n k b part) 0 (n + e)
     record_begin k e lp lq same h = record {
       some = omega (arith, f.end);
       long = same ∙ long;
       within = omega (arith, ap length (take_rest b n), length-drop n b, f.within);
       going = λ g.
-          let c : p.count ≡ p.count - 0 = omega arith in
           let ns = writes name (names g.fields) in
-          let x = then_put (6 ∷ le 4 p.count) ns was b part n long f k e lp (said_names part _ (Some e) h g) in
+          let x = then_put (6 ∷ take 4 (to_le_bytes w64 p.count)) ns was b part n long f k e lp (said_names part _ (Some e) h g) in
           record {
             to_come = g.fields;
-            run = subst (λ k. Run g.used p.start (5 * k)) c g.run;
-            lie = subst (λ k. HoldsFields bs m g.used g.fields p.start k) c g.lie;
-            written = ap (λ v. v ++ write_values g.fields) x.is ∙ append_assoc (6 ∷ le 4 p.count) ns (write_values g.fields) ∙ record_head g;
+            run = record { used = λ j x y. g.run.used j (omega arith) (omega arith) };
+            lie = moved_fields bs m g.used g.fields _ _ _ _ (omega arith) (omega arith) g.lie;
+            written = ap (λ v. v ++ write_values g.fields) x.is ∙ append_assoc (6 ∷ take 4 (to_le_bytes w64 p.count)) ns (write_values g.fields) ∙ record_head g;
           };
     }
 
-  module _ (was now : List ℕ) (i n at : ℕ) (t : RecordTurn was now i n at) where
+  module _ (was now : List ℕ) (i n : ℕ) (t : RecordTurn was now i n) where
     pub record_whole : i ≡ p.count → WritesAny bs m (Record p) was now (Some n)
     record_whole e = on_record bs m p was now (Some n) (λ g.
         let w = t.going g in
-        whole was now n t.long t.within (write_data (rec g.fields)) (write_values w.to_come) w.written (no_fields_left bs m g.used w.to_come at (p.count - i) (omega arith) w.lie).0)
+        whole was now n t.long t.within (write_data (rec g.fields)) (write_values w.to_come) w.written (no_fields_left bs m g.used w.to_come (p.start + 5 * i) (p.count - i) (omega arith) w.lie).0)
 
     module _ (lt : i < p.count) where
-      pub record_outside : (now' : List ℕ) → length m < at + 5 → WritesAny bs m (Record p) was now' None
-      record_outside now' l = on_record bs m p was now' None (λ g. let w = t.going g in absurd (let z : ⊥ = omega (arith, in_reach bs m g.used at (p.count - i) 5 (omega arith) (omega arith) w.run (omega arith) g.low) in z))
-
-      module _ (f : Field) (q : f ≡ loaded_field m at) (part : List ℕ) where
-        record_next : (g : RecordThere bs m p) → FirstField bs m g.used (t.going g).to_come f at (p.count - i)
-        record_next g = first_field bs m g.used (t.going g).to_come f at (p.count - i) (omega arith) q (t.going g).lie
+      module _ (f : Field) (q : f ≡ loaded_field m (p.start + 5 * i)) (part : List ℕ) where
+        record_next : (g : RecordThere bs m p) → FirstField bs m g.used (t.going g).to_come f (p.start + 5 * i) (p.count - i)
+        record_next g = first_field bs m g.used (t.going g).to_come f (p.start + 5 * i) (p.count - i) (omega arith) q (t.going g).lie
 
         record_split : (g : RecordThere bs m p) → take n now ++ (write_data (record_next g).item ++ write_values (record_next g).others) ≡ write_data (rec g.fields)
         record_split g = ap (λ v. take n now ++ v) (sym (record_next g).written) ∙ (t.going g).written
@@ -292,7 +270,7 @@ module _ (bs m : List ℕ) (p : Place) where
             stops was now n t.long t.within (write_data (rec g.fields)) (write_data (record_next g).item) (write_values (record_next g).others) part (record_split g) (record_item g None h))
 
         pub record_turned : (k e : ℕ) → length part ≡ length (take (length now - n) (drop n now)) → e ≤ length (take (length now - n) (drop n now)) → length (put_mid n k now part) ≡ length now → WritesAny bs m f.value (take (length now - n) (drop n now)) part (Some e)
-            → RecordTurn was (put_mid n k now part) (i + 1) (n + e) (at + 5)
+            → RecordTurn was (put_mid n k now part) (i + 1) (n + e)
         record_turned k e lp lq same h = record {
           some = omega (arith, t.some);
           long = same ∙ t.long;
@@ -300,11 +278,10 @@ module _ (bs m : List ℕ) (p : Place) where
           going = λ g.
               let w = t.going g in
               let x = record_next g in
-              let z : p.count - i - 1 ≡ p.count - (i + 1) = omega arith in
               record {
                 to_come = x.others;
-                run = subst (λ y. Run g.used (at + 5) (5 * y)) z (next_fields bs m g.used at (p.count - i) w.run);
-                lie = subst (λ y. HoldsFields bs m g.used x.others (at + 5) y) z x.lie;
+                run = record { used = λ j y z. w.run.used j (omega arith) (omega arith) };
+                lie = moved_fields bs m g.used x.others _ _ _ _ (omega arith) (omega arith) x.lie;
                 written = goes_on was now n t.long t.within (write_data (rec g.fields)) (write_data x.item) (write_values x.others) part (record_split g) k e lp (record_item g (Some e) h);
               };
         }
@@ -317,8 +294,8 @@ put_long vs a b now None l f = omega (arith, f)
 pub writes_long : (bs m : List ℕ) (v : Value) (a b now : List ℕ) (r : Option ℕ) → length a ≡ length b → WritesAny bs m v a now r → WritesAny bs m v b now r
 writes_long bs m v a b now r l f = record { means = λ d u h low. put_long (write_data d) a b now r l (f.means d u h low) }
 
-pub bag_long : (bs m : List ℕ) (p : Place) (a b now : List ℕ) (i n at : ℕ) → length a ≡ length b → BagTurn bs m p a now i n at → BagTurn bs m p b now i n at
-bag_long bs m p a b now i n at l t = record { some = t.some; long = t.long ∙ l; within = omega (arith, t.within); going = t.going }
+pub bag_long : (bs m : List ℕ) (p : Place) (a b now : List ℕ) (i n : ℕ) → length a ≡ length b → BagTurn bs m p a now i n → BagTurn bs m p b now i n
+bag_long bs m p a b now i n l t = record { some = t.some; long = t.long ∙ l; within = omega (arith, t.within); going = t.going }
 
-pub record_long : (bs m : List ℕ) (p : Place) (a b now : List ℕ) (i n at : ℕ) → length a ≡ length b → RecordTurn bs m p a now i n at → RecordTurn bs m p b now i n at
-record_long bs m p a b now i n at l t = record { some = t.some; long = t.long ∙ l; within = omega (arith, t.within); going = t.going }
+pub record_long : (bs m : List ℕ) (p : Place) (a b now : List ℕ) (i n : ℕ) → length a ≡ length b → RecordTurn bs m p a now i n → RecordTurn bs m p b now i n
+record_long bs m p a b now i n l t = record { some = t.some; long = t.long ∙ l; within = omega (arith, t.within); going = t.going }

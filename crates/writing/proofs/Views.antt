@@ -1,5 +1,5 @@
 -- What a value stands for, by its kind.
-use Rattle.std.proofs.Common.{◌≡◌, ℕ, suc, ◌+◌, ◌-◌, ◌*◌, ◌<◌, ◌≤◌, List, [], ◌++◌, length, get_or, sym, refl, ap, ◌∙◌, subst, arith}
+use Rattle.std.proofs.Common.{◌≡◌, ℕ, suc, ◌+◌, ◌-◌, ◌*◌, ◌<◌, List, [], ◌++◌, length, get_or, sym, refl, ap, ◌∙◌, subst, arith}
 use Rattle.query.specs.Data.{Name, Data, unit, num, truth, text, bag, rec, left, right, Datas, none, more, Fields, no_field, field, how_many}
 use Rattle.format.specs.Coding.{name, writes}
 use Rattle.format.specs.Wire.{names, write_data, write_datas, write_values}
@@ -7,6 +7,10 @@ use Rattle.values.specs.Memory.{Used, Under, Run, Spelled, Holds, HoldsAll, Hold
 use Rattle.values.specs.declared.value.Field.{Field}
 use Rattle.values.specs.declared.value.Value.{Value}
 use Rattle.values.specs.declared.value.Value.TheVariants.{Nothing, Number, Truth, Text, Bag, Record, Left, Right}
+
+-- what is in use goes no further than memory
+pub past : (u : Used) (start count long : ℕ) → 0 < count → long < start + count → Run u start count → Under u long → ⊥
+past u start count long z l r b = let k : start + (count - 1) < long = b.low (start + (count - 1)) (r.used (start + (count - 1)) (omega arith) (omega arith)) in omega arith
 
 module _ (bs m : List ℕ) (u : Used) where
   abbrev pub Held : Value → Data → Type 0
@@ -41,15 +45,12 @@ module _ (bs m : List ℕ) (u : Used) where
   many_fields no_field at k h = sym h
   many_fields (field n d fs) at k h = ap suc (many_fields fs (at + 5) h.0 h.4) ∙ sym h.1
 
-  -- words in use below a place, and the next of them
-  pub in_reach : (at k w : ℕ) → 0 < k → 0 < w → Run u at (w * k) → w ≤ w * k → Under u (length m) → at + w ≤ length m
-  in_reach at k w lk lw r l low = let z = low.low (at + (w - 1)) (r.used (at + (w - 1)) (omega arith) (omega arith)) in omega arith
+  -- places by another name
+  pub moved_things : (ds : Datas) (at bt k l : ℕ) → at ≡ bt → k ≡ l → HoldsAll bs m u ds at k → HoldsAll bs m u ds bt l
+  moved_things ds at bt k l p q h = subst (λ x. HoldsAll bs m u ds bt x) q (subst (λ x. HoldsAll bs m u ds x k) p h)
 
-  pub next_slots : (at k : ℕ) → Run u at (3 * k) → Run u (at + 3) (3 * (k - 1))
-  next_slots at k r = record { used = λ i p q. r.used i (omega arith) (omega arith) }
-
-  pub next_fields : (at k : ℕ) → Run u at (5 * k) → Run u (at + 5) (5 * (k - 1))
-  next_fields at k r = record { used = λ i p q. r.used i (omega arith) (omega arith) }
+  pub moved_fields : (fs : Fields) (at bt k l : ℕ) → at ≡ bt → k ≡ l → HoldsFields bs m u fs at k → HoldsFields bs m u fs bt l
+  moved_fields fs at bt k l p q h = subst (λ x. HoldsFields bs m u fs bt x) q (subst (λ x. HoldsFields bs m u fs x k) p h)
 
   -- the first of those that are to come
   pub record First (ds : Datas) (at k : ℕ) : Type 0 where

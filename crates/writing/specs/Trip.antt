@@ -3,8 +3,7 @@ use Rattle.std.specs.Prelude.{◌≡◌, ℕ, ◌*◌, ◌<◌, ◌≤◌, List,
 use Rattle.query.specs.Data.{Data}
 use Rattle.query.specs.Size.{size_d}
 use Rattle.format.specs.Wire.{write_data}
-use Rattle.loading.specs.Loads.{Ready, LiesInside, Loads}
-use Rattle.loading.specs.declared.loaded.Loaded.{Loaded}
+use Rattle.loading.specs.Loads.{Laid, Ready, LiesInside, Loads}
 use Rattle.writing.specs.Writes.{Writes}
 
 -- so many numbers were written as bytes were read, and the same; or fewer numbers were lent than bytes were read
@@ -15,7 +14,7 @@ Back bs at long was now None = length was < long
 -- whatever was loaded from a place, by what loading ensures, and written out, by what writing ensures
 abbrev pub RoundTrip : Type 0
 RoundTrip =
-    (bs : List ℕ) (at ty depth top : ℕ) (m : List ℕ) (l : Loaded) (was now : List ℕ) (r : Option ℕ)
+    (bs : List ℕ) (at ty depth top : ℕ) (m : List ℕ) (l : Laid) (was now : List ℕ) (r : Option ℕ)
     → Ready bs at ty depth top → LiesInside bs at ty top m l → Loads bs at ty depth top m (Some l) → Writes bs m l.value was now r → Back bs at l.length was now r
 
 -- a datum has at most nine bytes a part

@@ -3,5 +3,4 @@
 
 pub mod out;
 mod put;
-mod read;
 pub mod trip;

@@ -3,28 +3,28 @@ use Rattle.binary.proofs.Joints.{operands_of, operated, product_values, product_
 use Rattle.binary.proofs.pair_of.Goals as goal
 
 pub operate-requires : goal.operate-requires
-operate-requires c = record { space = c.requires.space; ready = operands_of (rw c.in-Op.is at c.requires.ready) }
+operate-requires c = operands_of (rw c.in-Op.is at c.requires)
 
 pub pair_up-requires : goal.pair_up-requires
-pair_up-requires c = record { space = c.requires.space; ready = product_values (rw c.in-Product.is at c.requires.ready) }
+pair_up-requires c = product_values (rw c.in-Product.is at c.requires)
 
 pub overflow_add-first : goal.overflow_add-first
-overflow_add-first c = omega (arith, bytes_enough (rw c.in-Matched.is at c.requires.ready))
+overflow_add-first c = omega (arith, bytes_enough (rw c.in-Matched.is at c.requires))
 
 pub overflow_add-second : goal.overflow_add-second
-overflow_add-second c = omega (arith, bytes_enough (rw c.in-Matched.is at c.requires.ready))
+overflow_add-second c = omega (arith, bytes_enough (rw c.in-Matched.is at c.requires))
 
 pub overflow_add-second-in-Matched : goal.overflow_add-second-in-Matched
-overflow_add-second-in-Matched c = omega (arith, bytes_enough (rw c.in-Matched.is at c.requires.ready))
+overflow_add-second-in-Matched c = omega (arith, bytes_enough (rw c.in-Matched.is at c.requires))
 
 pub pair_up-requires-in-Matched : goal.pair_up-requires-in-Matched
-pair_up-requires-in-Matched c = record { space = c.requires.space; ready = match_values (rw c.in-Matched.is at c.requires.ready) }
+pair_up-requires-in-Matched c = match_values (rw c.in-Matched.is at c.requires)
 
 pub returns-in-Op : goal.returns-in-Op
-returns-in-Op c = rw c.in-Op.is (operated c.operate.ensures)
+returns-in-Op c = record { frozen = c.operate.ensures.frozen; comes = rw c.in-Op.is (operated c.operate.ensures.does) }
 
 pub returns-in-Product : goal.returns-in-Product
-returns-in-Product c = rw c.in-Product.is (product_done c.pair_up.ensures)
+returns-in-Product c = record { frozen = c.pair_up.ensures.frozen; comes = rw c.in-Product.is (product_done c.pair_up.ensures.pairs) }
 
 pub returns-in-Matched : goal.returns-in-Matched
-returns-in-Matched c = rw c.in-Matched.is (match_done c.pair_up-in-Matched.ensures)
+returns-in-Matched c = record { frozen = c.pair_up-in-Matched.ensures.frozen; comes = rw c.in-Matched.is (match_done c.pair_up-in-Matched.ensures.pairs) }

@@ -1,18 +1,19 @@
-use Rattle.std.proofs.Common.{◌≡◌, ◌-◌, length, sym, ap, ◌∙◌, arith, length-drop}
+use Rattle.std.proofs.Common.{ap}
+use Rattle.values.specs.Lent.{all}
+use Rattle.literals.specs.Literals.{brought}
 use Rattle.asking.proofs.Loading.{tables_ready, not_loaded, loaded_up}
 use Rattle.asking.proofs.asked.load_all.Goals as goal
 
-pub returns-in_err-top : goal.returns-in_err-top
-returns-in_err-top c = record { means = λ p. not_loaded c.args.bytes.now c.args.guide.now c.args.ask p _ c.load_tables.new.mem c.from_residual.result c.from_residual.ensures c.in_err-top.ensures.means }
+pub returns-in_err-load_tables-clause-means : goal.returns-in_err-load_tables-clause-means
+returns-in_err-load_tables-clause-means c = λ z.
+    let t = rw z at c.in_err-load_tables.ensures.means in
+    record { means = λ p. not_loaded c.args.bytes.now c.args.guide.now c.args.ask p _ (all c.load_tables.new.memory) _ (ap (brought c.load_tables.new.memory.top) c.from_residual.ensures) t }
 
-pub load_literals-requires : goal.load_literals-requires
-load_literals-requires c =
-    let l : length c.args.query.now ≡ length c.args.bytes.now - c.args.ask.query_at = ap length (sym c.requires.query) ∙ length-drop c.args.ask.query_at c.args.bytes.now in
-    record { space = record { over = omega arith; fits = omega arith }; room = omega (arith, c.in_ok-top.ensures.inside); placed = omega (arith, l, c.requires.passed.query_at.stands.within) }
-
-pub returns : goal.returns
-returns c = record {
-  means = λ p.
-      loaded_up c.args.bytes.now c.args.guide.now c.args.ask p c.load_tables.new.mem c.load_literals.new.mem c.args.query.now c.args.marks.now c.load_literals.new.marks c.in_ok-top.top
-      (c.in_ok-top.ensures.means.means (tables_ready c.args.bytes.now c.args.guide.now c.args.ask p)) c.load_literals.ensures.kept c.requires.query c.requires.marks c.load_literals.result c.load_literals.ensures.means;
-}
+pub returns-clause-means : goal.returns-clause-means
+returns-clause-means c = λ z.
+    let t = rw z at c.in_ok-load_tables.ensures.means in
+    record {
+      means = λ p.
+          loaded_up c.args.bytes.now c.args.guide.now c.args.ask p (all c.load_tables.new.memory) (all c.load_literals.new.memory) c.args.query.now c.args.marks.now c.load_literals.new.marks c.load_tables.new.memory.top
+          (t.means (tables_ready c.args.bytes.now c.args.guide.now c.args.ask p)) c.load_literals.ensures.kept c.requires.query c.requires.marks _ c.load_literals.ensures.means;
+    }

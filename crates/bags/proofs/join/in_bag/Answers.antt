@@ -1,9 +1,8 @@
-use Rattle.std.proofs.Common.{arith, length-append}
 use Rattle.bags.proofs.Joining.{one_made, one_no_room}
 use Rattle.bags.proofs.join.in_bag.Goals as goal
 
-pub returns-then-size-top-lt3 : goal.returns-then-size-top-lt3
-returns-then-size-top-lt3 c = one_no_room c.args.value _ c.args.top (omega (arith, length-append c.args.base.now c.args.mem.now))
+pub returns-in_err-start-clause-makes : goal.returns-in_err-start-clause-makes
+returns-in_err-start-clause-makes c = rw c.from_residual.ensures (one_no_room c.in_err-start.ensures)
 
-pub returns : goal.returns
-returns c = one_made c.args.value _ c.args.top _ (omega (arith, length-append c.args.base.now c.args.mem.now)) c.store.ensures
+pub returns-clause-makes : goal.returns-clause-makes
+returns-clause-makes c = one_made c.in_ok-start.ensures

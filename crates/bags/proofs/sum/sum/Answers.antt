@@ -5,17 +5,8 @@ use Rattle.bags.proofs.sum.sum.Goals as goal
 pub loop-i-init : goal.loop-i-init
 loop-i-init c = sum_begins c.args.place _
 
-pub overflow_mul-i : goal.overflow_mul-i
-overflow_mul-i c = omega (arith, c.requires.readable.spots c.loop-i.i c.loop-i-test.true)
-
-pub overflow_add-place : goal.overflow_add-place
-overflow_add-place c = omega (arith, c.requires.readable.spots c.loop-i.i c.loop-i-test.true)
-
-pub load-requires : goal.load-requires
-load-requires c = record { fits = c.requires.fits; within = c.requires.readable.spots c.loop-i.i c.loop-i-test.true }
-
 pub returns-in_default : goal.returns-in_default
-returns-in_default c = sum_stops c.args.place _ c.loop-i.i c.loop-i.total c.loop-i.invariant c.load.result c.loop-i-test.true (sym c.load.ensures) c.in_default.not-Number
+returns-in_default c = sum_stops c.args.place _ c.loop-i.i c.loop-i.total c.loop-i.invariant c.nth.result c.loop-i-test.true (sym c.nth.ensures) c.in_default.not-Number
 
 pub loop-i-preserved : goal.loop-i-preserved
 loop-i-preserved c = sum_more c.args.place _ c.loop-i.i c.loop-i.total c.loop-i.invariant c.in-Number.n c.loop-i-test.true (sym c.in-Number.ensures)

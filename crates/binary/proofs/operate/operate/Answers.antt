@@ -1,19 +1,20 @@
+use Rattle.std.proofs.Common.{refl}
 use Rattle.binary.proofs.operate.operate.Goals as goal
 
 pub returns-in-And : goal.returns-in-And
-returns-in-And c = rw c.in-And.is (c.both_true.ensures.does c.args.bytes.now c.args.deep _)
+returns-in-And c = record { frozen = refl; does = rw c.in-And.is ((c.both_true.ensures _).does c.args.bytes.now c.args.deep _) }
 
 pub returns-in-Or : goal.returns-in-Or
-returns-in-Or c = rw c.in-Or.is (c.one_true.ensures.does c.args.bytes.now c.args.deep _)
+returns-in-Or c = record { frozen = refl; does = rw c.in-Or.is ((c.one_true.ensures _).does c.args.bytes.now c.args.deep _) }
 
 pub returns-in-Plus : goal.returns-in-Plus
-returns-in-Plus c = rw c.in-Plus.is (c.plus.ensures.does c.args.bytes.now c.args.deep _)
+returns-in-Plus c = record { frozen = refl; does = rw c.in-Plus.is ((c.plus.ensures _).does c.args.bytes.now c.args.deep _) }
 
 pub returns-in-Less : goal.returns-in-Less
-returns-in-Less c = rw c.in-Less.is (c.less.ensures.does c.args.bytes.now c.args.deep _)
+returns-in-Less c = record { frozen = refl; does = rw c.in-Less.is ((c.less.ensures _).does c.args.bytes.now c.args.deep _) }
 
 pub join_two-requires : goal.join_two-requires
-join_two-requires c = record { space = c.requires.space; ready = record { bytes = c.args.bytes.now; deep = c.args.deep; given = rw c.in-JoinBags.is at c.requires.ready } }
+join_two-requires c = record { bytes = c.args.bytes.now; deep = c.args.deep; given = rw c.in-JoinBags.is at c.requires }
 
 pub returns-in-JoinBags : goal.returns-in-JoinBags
-returns-in-JoinBags c = rw c.in-JoinBags.is (c.join_two.ensures.does c.args.bytes.now c.args.deep)
+returns-in-JoinBags c = record { frozen = c.join_two.ensures.frozen; does = rw c.in-JoinBags.is (c.join_two.ensures.does.does c.args.bytes.now c.args.deep) }

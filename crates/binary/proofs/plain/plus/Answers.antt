@@ -4,14 +4,14 @@ use Rattle.binary.proofs.Simple.{plus_first, plus_second, plus_comes}
 use Rattle.binary.proofs.plain.plus.Goals as goal
 
 pub returns-in_err-x : goal.returns-in_err-x
-returns-in_err-x c =
+returns-in_err-x c = λ top.
     let p = err_from_is_err_and c.from_residual.result c.from_residual.ensures.1 in
-    rw (p.1, p.2) (plus_first c.args.a c.args.b c.args.top c.args.left _ (sym c.in_err-x.ensures))
+    rw (p.1, p.2) (plus_first c.args.a c.args.b top c.args.left _ (sym c.in_err-x.ensures))
 
 pub returns-in_err-y : goal.returns-in_err-y
-returns-in_err-y c =
+returns-in_err-y c = λ top.
     let p = err_from_is_err_and c.from_residual-in_err-y.result c.from_residual-in_err-y.ensures.1 in
-    rw (p.1, p.2) (plus_second c.args.a c.args.b c.args.top c.args.left _ _ (sym c.in_ok-x.ensures) (sym c.in_err-y.ensures))
+    rw (p.1, p.2) (plus_second c.args.a c.args.b top c.args.left _ _ (sym c.in_ok-x.ensures) (sym c.in_err-y.ensures))
 
 pub returns : goal.returns
-returns c = plus_comes c.args.a c.args.b c.args.top c.args.left _ _ (sym c.in_ok-x.ensures) (sym c.in_ok-y.ensures)
+returns c = λ top. plus_comes c.args.a c.args.b top c.args.left _ _ (sym c.in_ok-x.ensures) (sym c.in_ok-y.ensures)

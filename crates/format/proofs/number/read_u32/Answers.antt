@@ -1,7 +1,6 @@
 use Rattle.std.proofs.Common.{arith}
-use Rattle.format.specs.Lists.{bytes_typed}
-use Rattle.format.specs.Codings.{number_stuck}
+use Rattle.format.proofs.Numbers.{begins_4}
 use Rattle.format.proofs.number.read_u32.Goals as goal
 
-pub returns-then-bytes-lt4 : goal.returns-then-bytes-lt4
-returns-then-bytes-lt4 c = number_stuck 4 c.args.bytes.now (bytes_typed c.args.bytes.now c.type_inv.bytes) (omega arith)
+pub returns : goal.returns
+returns c = begins_4 c.args.bytes.now c.in_ok-front.field-0.now c.from_le_bytes.result c.type_inv.bytes c.in_ok-front.ensures.0 c.in_ok-front.ensures.1 (omega arith) c.from_le_bytes.ensures

@@ -1,19 +1,15 @@
-use Rattle.std.proofs.Common.{◌+◌}
+use Rattle.std.proofs.Common.{◌≡◌, ℕ, ◌+◌, List, length, arith}
 use Rattle.format.specs.Coding.{name}
 use Rattle.format.specs.Codings.{name_way}
-use Rattle.format.specs.Trees.{inhabited}
-use Rattle.format.specs.NameLaws.{no_parts, name_laws}
-use Rattle.format.proofs.Pairs.{pair_read, pair_cut, pair_short}
+use Rattle.format.specs.NameLaws.{name_some}
+use Rattle.format.proofs.Pairs.{pair_told, pair_stuck, pair_short}
 use Rattle.format.proofs.queries.two_names.Goals as goal
 
-pub returns-in-Ok-read_name : goal.returns-in-Ok-read_name
-returns-in-Ok-read_name c =
-    let a = c.in-Ok.ensures in
-    let b = c.in-Ok-read_name.ensures in
-    record { thing = (a.thing, b.thing); begins = pair_read name name c.args.bytes.now (4 + c.in-Ok.m) (4 + c.in-Ok-read_name.n) a.thing b.thing a.begins b.begins; says = (a.says, b.says) }
+pub returns-in_err-m : goal.returns-in_err-m
+returns-in_err-m c = grind (arith, λ (xs : List ℕ) (p : ℕ). pair_short name name xs p name_some)
 
-pub returns-in-Err-read_name : goal.returns-in-Err-read_name
-returns-in-Err-read_name c = let a = c.in-Ok.ensures in pair_cut name name c.args.bytes.now (4 + c.in-Ok.m) c.in-Err-read_name.p a.thing name_way a.begins c.in-Err-read_name.ensures
+pub returns-in_err-n : goal.returns-in_err-n
+returns-in_err-n c = grind (arith, λ (p : ℕ). pair_stuck name name (λ t. length t ≡ c.in_ok-m.m) c.args.bytes.now (4 + c.in_ok-m.m) p name_way c.in_ok-m.ensures)
 
-pub returns-in-Err : goal.returns-in-Err
-returns-in-Err c = pair_short name name c.args.bytes.now c.in-Err.p (inhabited name name (no_parts name) name_laws) c.in-Err.ensures
+pub returns : goal.returns
+returns c = grind (arith, pair_told name name (λ t. length t ≡ c.in_ok-m.m) (λ t. length t ≡ c.in_ok-n.n) c.args.bytes.now (4 + c.in_ok-m.m) (4 + c.in_ok-n.n))

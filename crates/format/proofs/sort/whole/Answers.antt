@@ -2,24 +2,17 @@ use Rattle.std.proofs.Common.{arith}
 use Rattle.format.specs.Codings.{garbled_stuck}
 use Rattle.format.proofs.Spans.{unopened_stuck}
 use Rattle.format.proofs.Wholes.{whole_cut, whole_after, whole_all}
+use Rattle.format.proofs.Moved.{moved_ok}
 use Rattle.format.proofs.sort.whole.Goals as goal
 
-pub returns-then-o-e : goal.returns-then-o-e
-returns-then-o-e g c =
-    let o = c.in-Ok.o in
-    record { is = whole_after g.S.Sort.coding c.args.bytes.now o.parts o.length c.in-Ok.ensures.opened c.in-Ok-scan.e g.met.S.Sort.unique c.in-Ok-scan.ensures (omega arith); says = tt }
+pub returns-in_err-head-clause-is : goal.returns-in_err-head-clause-is
+returns-in_err-head-clause-is g c = grind (arith, garbled_stuck g.S.Sort.coding, unopened_stuck g.S.Sort.coding)
 
-pub returns-else-o-e : goal.returns-else-o-e
-returns-else-o-e g c =
-    let o = c.in-Ok.o in
-    record { is = whole_all g.S.Sort.coding c.args.bytes.now o.parts o.length c.in-Ok.ensures.opened c.in-Ok-scan.e c.in-Ok-scan.ensures (omega arith); says = (o.length, c.in-Ok.ensures.says) }
+pub returns-in_err-e-clause-is : goal.returns-in_err-e-clause-is
+returns-in_err-e-clause-is g c = grind (arith, whole_cut g.S.Sort.coding c.args.bytes.now c.in_ok-head.field-0.parts c.in_ok-head.field-0.length c.in_ok-head.ensures.opened)
 
-pub returns-in-Err-scan : goal.returns-in-Err-scan
-returns-in-Err-scan g c =
-    let o = c.in-Ok.o in
-    record { is = whole_cut g.S.Sort.coding c.args.bytes.now o.parts o.length c.in-Ok.ensures.opened c.in-Err-scan.p c.in-Err-scan.ensures; says = tt }
+pub returns-then-e-bytes-clause-is : goal.returns-then-e-bytes-clause-is
+returns-then-e-bytes-clause-is g c = whole_after g.S.Sort.coding c.args.bytes.now c.in_ok-head.field-0.parts c.in_ok-head.field-0.length c.in_ok-head.ensures.opened _ g.met.S.Sort.unique (moved_ok _ _ _ _ _ _ c.scan.ensures c.map_err.ensures.cases c.in_ok-e.was) (omega arith)
 
-pub returns-in-Err : goal.returns-in-Err
-returns-in-Err g c =
-    let xs = c.args.bytes.now in
-    record { is = garbled_stuck g.S.Sort.coding xs c.in-Err.p (unopened_stuck g.S.Sort.coding xs c.in-Err.p c.in-Err.ensures.opened); says = tt }
+pub returns-clause-is : goal.returns-clause-is
+returns-clause-is g c = whole_all g.S.Sort.coding c.args.bytes.now c.in_ok-head.field-0.parts c.in_ok-head.field-0.length c.in_ok-head.ensures.opened c.in_ok-e.field-0 (moved_ok _ _ _ _ _ _ c.scan.ensures c.map_err.ensures.cases c.in_ok-e.was) (omega arith)

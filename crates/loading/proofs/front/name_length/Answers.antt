@@ -1,8 +1,7 @@
-use Rattle.loading.proofs.Starts.{name_tells, name_within, no_name}
+use Rattle.loading.proofs.Starts.{name_said}
 use Rattle.loading.proofs.front.name_length.Goals as goal
 
-pub returns-in-Ok : goal.returns-in-Ok
-returns-in-Ok c = record { inside = name_within c.args.bytes.now c.args.at _ c.requires c.in-Ok.ensures; tells = record { tells = name_tells c.args.bytes.now c.args.at _ c.in-Ok.ensures } }
-
-pub returns-in-Err : goal.returns-in-Err
-returns-in-Err c = record { inside = tt; tells = record { tells = no_name c.args.bytes.now c.args.at _ c.in-Err.ensures } }
+pub returns : goal.returns
+returns c =
+    let s = name_said c.args.bytes.now c.args.at c.read_name.result c.requires c.read_name.ensures in
+    rw c.ok.ensures.value record { inside = s.0; tells = s.1 }

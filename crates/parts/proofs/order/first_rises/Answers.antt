@@ -1,15 +1,17 @@
 use Rattle.std.proofs.Common.{sym}
-use Rattle.parts.proofs.Rising.{rise_stuck, rise_cut, rise_yes, rise_no}
+use Rattle.parts.proofs.Taken.{taken, not_taken}
+use Rattle.parts.proofs.Rising.{rise_cut, rise_yes, rise_no}
 use Rattle.parts.proofs.order.first_rises.Goals as goal
 
-pub returns-then-name_before : goal.returns-then-name_before
-returns-then-name_before c = rise_yes c.args.bytes.now c.in-Ok.m c.in-Ok.ensures c.in-Ok-read_name.n c.in-Ok-read_name.ensures (sym c.if-name_before.ensures)
+pub returns-in_err-n : goal.returns-in_err-n
+returns-in_err-n c =
+    let s = not_taken _ _ _ c.in_err-n.ensures.value c.read_name-2.ensures in
+    rw c.from_residual-in_err-n.ensures (rise_cut c.args.bytes.now c.in_ok-m.m (taken _ _ _ _ c.in_ok-m.ensures.value c.read_name.ensures) s.0 s.1)
 
-pub returns-else-name_before : goal.returns-else-name_before
-returns-else-name_before c = rise_no c.args.bytes.now c.in-Ok.m c.in-Ok.ensures c.in-Ok-read_name.n c.in-Ok-read_name.ensures (sym c.if-name_before.ensures)
+pub returns-then-not-name_before : goal.returns-then-not-name_before
+returns-then-not-name_before c =
+    rise_no c.args.bytes.now c.in_ok-m.m (taken _ _ _ _ c.in_ok-m.ensures.value c.read_name.ensures) c.in_ok-n.n (taken _ _ _ _ c.in_ok-n.ensures.value c.read_name-2.ensures) (sym c.if-not-name_before.ensures)
 
-pub returns-in-Err-read_name : goal.returns-in-Err-read_name
-returns-in-Err-read_name c = rise_cut c.args.bytes.now c.in-Ok.m c.in-Ok.ensures _ c.in-Err-read_name.ensures
-
-pub returns-in-Err : goal.returns-in-Err
-returns-in-Err c = rise_stuck c.args.bytes.now _ c.in-Err.ensures
+pub returns : goal.returns
+returns c =
+    rise_yes c.args.bytes.now c.in_ok-m.m (taken _ _ _ _ c.in_ok-m.ensures.value c.read_name.ensures) c.in_ok-n.n (taken _ _ _ _ c.in_ok-n.ensures.value c.read_name-2.ensures) (sym c.if-not-name_before.ensures)

@@ -1,13 +1,12 @@
-use Rattle.std.proofs.Common.{refl, arith}
+use Rattle.std.proofs.Common.{arith}
 use Rattle.query.specs.Size.{size_t}
 use Rattle.format.specs.Wire.{types}
 use Rattle.format.specs.Heads.{query_heads}
 use Rattle.format.specs.Nodes.{TellsQuery}
 use Rattle.parts.specs.Heads.{written_out, written_size, own_q}
-use Rattle.parts.proofs.QueryParts.{own_just, own_unary, own_matched, own_left, own_right, own_nothing}
+use Rattle.parts.proofs.QueryParts.{own_just, own_unary, own_matched, own_side, own_nothing}
 use Rattle.parts.proofs.Owns.{weighed_over, weighed_some}
 use Rattle.parts.proofs.queries.own_parts.Goals as goal
-use Rattle.parts.proofs.queries.own_parts.Goals.{else-m-limit-via-then-m-limit+else-n-limit, else-m-limit-via-else-m-limit}
 
 pub returns-in_err-written-in-Just : goal.returns-in_err-written-in-Just
 returns-in_err-written-in-Just c =
@@ -24,36 +23,28 @@ returns-in_ok-written-in-Just c =
 pub returns-in-One : goal.returns-in-One
 returns-in-One c = own_unary c.args.limit c.args.bytes.now c.args.node _ _ c.in-One.is c.unary_parts.ensures
 
-pub returns-then-n-limit : goal.returns-then-n-limit
-returns-then-n-limit c = own_matched c.args.limit c.args.bytes.now c.args.node _ _ _ c.in-Matched.is (refl, omega arith)
+pub returns-in_err-first-in-Matched : goal.returns-in_err-first-in-Matched
+returns-in_err-first-in-Matched c = rw c.from_residual-in_err-first-in-Matched.ensures (own_matched c.args.limit c.args.bytes.now c.args.node _ _ _ c.in-Matched.is (omega (arith, c.in_err-first-in-Matched.ensures)))
 
-pub returns-else-m-limit : goal.returns-else-m-limit
-returns-else-m-limit c = own_matched c.args.limit c.args.bytes.now c.args.node _ _ _ c.in-Matched.is
-    (elim c.else-m-limit.branch [ else-m-limit-via-then-m-limit+else-n-limit w ↦ omega arith | else-m-limit-via-else-m-limit w ↦ omega arith ])
+pub returns-in_err-second-in-Matched : goal.returns-in_err-second-in-Matched
+returns-in_err-second-in-Matched c =
+    rw c.from_residual-in_err-second-in-Matched.ensures (own_matched c.args.limit c.args.bytes.now c.args.node _ _ _ c.in-Matched.is (omega (arith, c.in_ok-first-in-Matched.ensures, c.in_err-second-in-Matched.ensures)))
+
+pub returns-in_ok-second-in-Matched : goal.returns-in_ok-second-in-Matched
+returns-in_ok-second-in-Matched c =
+    own_matched c.args.limit c.args.bytes.now c.args.node _ _ _ c.in-Matched.is (omega (arith, c.in_ok-first-in-Matched.ensures, c.in_ok-second-in-Matched.ensures), omega (arith, c.in_ok-first-in-Matched.ensures, c.in_ok-second-in-Matched.ensures))
 
 pub returns-in_err-other-in-OnLeft : goal.returns-in_err-other-in-OnLeft
 returns-in_err-other-in-OnLeft c =
     let xs = c.args.bytes.now in
     rw c.from_residual-in_err-other-in-OnLeft.ensures
-    (weighed_over query_heads TellsQuery own_q c.args.limit xs c.args.node types size_t 0 c.args.limit (own_left c.args.limit xs c.args.node _ c.in-OnLeft.is) (omega arith) c.in_err-other-in-OnLeft.ensures)
+    (weighed_over query_heads TellsQuery own_q c.args.limit xs c.args.node types size_t 0 c.args.limit (own_side c.args.limit xs c.args.node c.in-OnLeft.is) (omega arith) c.in_err-other-in-OnLeft.ensures)
 
 pub returns-in_ok-other-in-OnLeft : goal.returns-in_ok-other-in-OnLeft
 returns-in_ok-other-in-OnLeft c =
     let xs = c.args.bytes.now in
-    weighed_some query_heads TellsQuery own_q c.args.limit xs c.args.node types size_t 0 c.args.limit (own_left c.args.limit xs c.args.node _ c.in-OnLeft.is) (omega arith) c.in_ok-other-in-OnLeft.other _ (omega arith)
+    weighed_some query_heads TellsQuery own_q c.args.limit xs c.args.node types size_t 0 c.args.limit (own_side c.args.limit xs c.args.node c.in-OnLeft.is) (omega arith) c.in_ok-other-in-OnLeft.other _ (omega arith)
     c.in_ok-other-in-OnLeft.ensures
-
-pub returns-in_err-other-in-OnRight : goal.returns-in_err-other-in-OnRight
-returns-in_err-other-in-OnRight c =
-    let xs = c.args.bytes.now in
-    rw c.from_residual-in_err-other-in-OnRight.ensures
-    (weighed_over query_heads TellsQuery own_q c.args.limit xs c.args.node types size_t 0 c.args.limit (own_right c.args.limit xs c.args.node _ c.in-OnRight.is) (omega arith) c.in_err-other-in-OnRight.ensures)
-
-pub returns-in_ok-other-in-OnRight : goal.returns-in_ok-other-in-OnRight
-returns-in_ok-other-in-OnRight c =
-    let xs = c.args.bytes.now in
-    weighed_some query_heads TellsQuery own_q c.args.limit xs c.args.node types size_t 0 c.args.limit (own_right c.args.limit xs c.args.node _ c.in-OnRight.is) (omega arith) c.in_ok-other-in-OnRight.other _ (omega arith)
-    c.in_ok-other-in-OnRight.ensures
 
 pub returns-in_default : goal.returns-in_default
 returns-in_default c =

@@ -3,7 +3,7 @@ use Rattle.query.specs.Size.{size_1, sizes}
 use Rattle.format.specs.Coding.{name, counted}
 use Rattle.format.specs.Nodes.{IsOp1}
 use Rattle.parts.specs.Heads.{operators}
-use Rattle.parts.proofs.QueryParts.{unary_dot, unary_field, unary_without, unary_plain, unary_names, unary_none}
+use Rattle.parts.proofs.QueryParts.{unary_named, unary_plain, unary_names, unary_none}
 use Rattle.parts.proofs.Owns.{weighed_over, weighed_some}
 use Rattle.parts.proofs.queries.unary_parts.Goals as goal
 
@@ -17,13 +17,7 @@ returns-in_err-names-in-Only c =
     (weighed_over operators IsOp1 size_1 c.args.limit xs c.args.op (counted name) sizes 1 _ (unary_names c.args.limit xs c.args.op _ c.in-Only.is) (omega arith) c.in_err-names-in-Only.ensures)
 
 pub returns-in-Dot : goal.returns-in-Dot
-returns-in-Dot c = unary_dot c.args.limit c.args.bytes.now c.args.op _ _ c.in-Dot.is c.named_parts.ensures
-
-pub returns-in-AsField : goal.returns-in-AsField
-returns-in-AsField c = unary_field c.args.limit c.args.bytes.now c.args.op _ _ c.in-AsField.is c.named_parts-in-AsField.ensures
-
-pub returns-in-Without : goal.returns-in-Without
-returns-in-Without c = unary_without c.args.limit c.args.bytes.now c.args.op _ _ c.in-Without.is c.named_parts-in-Without.ensures
+returns-in-Dot c = unary_named c.args.limit c.args.bytes.now c.args.op _ _ c.in-Dot.is c.named_parts-in-Dot.ensures
 
 pub returns-in_ok-names-in-Only : goal.returns-in_ok-names-in-Only
 returns-in_ok-names-in-Only c =
@@ -32,4 +26,4 @@ returns-in_ok-names-in-Only c =
 
 pub returns-in_default : goal.returns-in_default
 returns-in_default c =
-    unary_plain c.args.limit c.args.bytes.now c.args.op _ c.in_default.not-Dot c.in_default.not-AsField c.in_default.not-Without c.in_default.not-Only c.named_parts-in_default.ensures
+    unary_plain c.args.limit c.args.bytes.now c.args.op _ c.in_default.not-Dot c.in_default.not-AsField c.in_default.not-Without c.in_default.not-Only c.named_parts.ensures

@@ -1,23 +1,18 @@
 use Rattle.std.proofs.Common.{arith}
-use Rattle.format.specs.Coding.{many}
+use Rattle.query.specs.Size.{size_t}
 use Rattle.format.specs.Wire.{types}
-use Rattle.query.specs.Size.{size_s}
-use Rattle.parts.specs.Counts.{total}
-use Rattle.parts.proofs.TypeParts.{entry_size, total_schema}
-use Rattle.parts.proofs.Rows.{counted_as, walk_more, walk_over, walk_done}
+use Rattle.parts.proofs.Walk.{counted_many}
+use Rattle.parts.proofs.TypeParts.{schema_none, schema_over, schema_done}
 use Rattle.parts.proofs.types.schema_parts.Goals as goal
 
-pub returns-in_err-one : goal.returns-in_err-one
-returns-in_err-one c =
-    rw c.from_residual.ensures
-    (counted_as (many types c.args.count) (total entry_size) size_s c.args.limit c.args.bytes.now _ total_schema
-    (walk_over types entry_size c.args.limit c.args.count c.args.bytes.now c.loop-i._i c.loop-i.parts c.loop-i.end c.loop-i.invariant (omega arith) c.in_err-one.ensures))
+pub returns-in_err-left : goal.returns-in_err-left
+returns-in_err-left c = rw c.from_residual.ensures (schema_none c.args.limit c.args.count c.args.bytes.now c.in_err-left.ensures)
 
-pub loop-i-preserved : goal.loop-i-preserved
-loop-i-preserved c =
-    walk_more types entry_size c.args.limit c.args.count c.args.bytes.now c.loop-i._i c.loop-i.parts c.loop-i.end c.loop-i.invariant c.in_ok-one.one (omega arith) c.in_ok-one.ensures
+pub returns-in_err-types : goal.returns-in_err-types
+returns-in_err-types c =
+    rw c.from_residual-in_err-types.ensures
+    (schema_over c.args.limit c.args.count c.args.bytes.now c.in_ok-left.left (omega (arith, c.in_ok-left.ensures)) (counted_many types size_t _ _ _ _ c.in_err-types.ensures))
 
 pub returns : goal.returns
 returns c =
-    counted_as (many types c.args.count) (total entry_size) size_s c.args.limit c.args.bytes.now _ total_schema
-    (walk_done types entry_size c.args.limit c.args.count c.args.bytes.now c.loop-i._i c.loop-i.parts c.loop-i.end c.loop-i.invariant (omega arith))
+    schema_done c.args.limit c.args.count c.args.bytes.now c.in_ok-left.left (omega (arith, c.in_ok-left.ensures)) c.in_ok-types.types (counted_many types size_t _ _ _ _ c.in_ok-types.ensures)

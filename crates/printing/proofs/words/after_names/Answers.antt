@@ -7,17 +7,19 @@ loop-i-init c = (omega arith, c.requires, begin c.args.words.now c.args.at c.arg
 
 pub loop-i-preserved : goal.loop-i-preserved
 loop-i-preserved c =
-    let n = c.in-Some.ensures in (
+    let n = c.in_ok-span.ensures in (
       omega (arith, c.loop-i.invariant.0, n.to_is),
       n.within,
-      step c.args.words.now c.args.at c.args.count c.loop-i.i c.loop-i.end c.in-Some.span c.loop-i-test.true c.loop-i.invariant.2 n,
+      step c.args.words.now c.args.at c.args.count c.loop-i.i c.loop-i.end c.in_ok-span.span c.loop-i-test.true c.loop-i.invariant.2 n,
     )
 
-pub returns-in_default : goal.returns-in_default
-returns-in_default c = record {
-  ends = tt;
-  past = cut_off c.args.words.now c.args.at c.args.count c.loop-i.i c.loop-i.end c.loop-i-test.true c.loop-i.invariant.2 c.in_default.ensures;
-}
+pub returns-in_err-span : goal.returns-in_err-span
+returns-in_err-span c =
+    rw c.from_residual.ensures
+    (record {
+      ends = tt;
+      past = cut_off c.args.words.now c.args.at c.args.count c.loop-i.i c.loop-i.end c.loop-i-test.true c.loop-i.invariant.2 c.in_err-span.ensures;
+    })
 
 pub returns : goal.returns
 returns c = record {

@@ -4,8 +4,8 @@ use Rattle.printing.proofs.words.eight.Goals as goal
 
 pub returns : goal.returns
 returns c =
-    let low = c.in-Some.ensures.1 in
-    let high = c.in-Some-four.ensures.1 in
+    let low = c.in_ok-low.ensures.1 in
+    let high = c.in_ok-high.ensures.1 in
     record {
       within = omega (arith, high.within);
       is = omega (arith, eight_words c.args.words.now c.args.at low.within, low.is, high.is);

@@ -14,8 +14,8 @@ returns-in_default c =
     (subst (λ (z : List Place). c.in_default.field-0 < length z) v e.0)
     (ap (λ (z : List Place). name_at c.args.bytes.now (get_or z c.in_default.field-0 nowhere)) (sym v) ∙ (e.1 ∙ part_same c.args.bytes.now c.args.start c.args.long)))
 
-pub returns-then-len-ge8200 : goal.returns-then-len-ge8200
-returns-then-len-ge8200 c = put_full c.args.bytes.now c.args.names.now _ c.requires.listed (omega arith)
+pub returns-then-len-ge-MOST : goal.returns-then-len-ge-MOST
+returns-then-len-ge-MOST c = put_full c.args.bytes.now c.args.names.now _ c.requires.listed (omega arith)
 
 pub insert-requires : goal.insert-requires
 insert-requires c =

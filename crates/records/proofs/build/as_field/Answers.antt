@@ -1,8 +1,8 @@
 use Rattle.records.proofs.Building.{one_made, one_no_room}
 use Rattle.records.proofs.build.as_field.Goals as goal
 
-pub returns-then-push : goal.returns-then-push
-returns-then-push c = one_made c.args.name c.args.value _ c.args.top _ c.if-push.ensures
+pub returns-in_err-start-clause-makes : goal.returns-in_err-start-clause-makes
+returns-in_err-start-clause-makes c = rw c.from_residual.ensures (one_no_room c.in_err-start.ensures)
 
-pub returns-else-push : goal.returns-else-push
-returns-else-push c = one_no_room c.args.name c.args.value _ c.args.top _ c.if-push.ensures
+pub returns-clause-makes : goal.returns-clause-makes
+returns-clause-makes c = one_made c.in_ok-start.ensures

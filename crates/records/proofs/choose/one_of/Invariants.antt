@@ -1,8 +1,6 @@
+use Rattle.std.proofs.Common.{◌-◌}
 use Rattle.records.proofs.Names.{Looking}
 use Rattle.records.proofs.choose.one_of.Given as goal
 
-abbrev pub invariant-loop-left : goal.invariant-loop-left
-invariant-loop-left l = Looking l.bytes l.names l.many l.name l.left l.here
-
-abbrev pub decreases-loop-left : goal.decreases-loop-left
-decreases-loop-left l = l.left
+abbrev pub invariant-loop : goal.invariant-loop
+invariant-loop l = Looking l.bytes l.fn.names.start l.fn.names.count l.name (l.fn.names.count - l.counter) l.here

@@ -1,7 +1,7 @@
 use Rattle.std.proofs.Common.{Some, None, ap, ◌∙◌}
 use Rattle.query.specs.Types.{type1}
 use Rattle.types.specs.Shapes.{type_at}
-use Rattle.types.specs.Outcomes.{look}
+use Rattle.types.specs.Outcomes.{look, tidy}
 use Rattle.types.proofs.Meanings.{stay, stays, meant_as}
 use Rattle.types.proofs.Operators.{if_yes, if_no}
 use Rattle.typed.specs.Shaped.{over_type}
@@ -17,14 +17,14 @@ returns-in-Each c = record {
 
 pub returns-then-is_truth : goal.returns-then-is_truth
 returns-then-is_truth c = record {
-  grew = stay (Some c.args.x) c.requires.tidy c.requires.bag;
+  grew = stay (Some c.args.x) (tidy _) c.requires.bag;
   says = λ ns rk. stays 1 0 (Some c.args.x) _
       (ap (λ (z : Over). over_type z (type_at ns (look c.args.table.now) c.args.x) (type_at ns (look c.args.table.now) c.args.v)) c.in-Keep.is ∙ if_yes _ _ (c.if-is_truth.ensures ns));
 }
 
 pub returns-else-is_truth : goal.returns-else-is_truth
 returns-else-is_truth c = record {
-  grew = stay None c.requires.tidy tt;
+  grew = stay None (tidy _) tt;
   says = λ ns rk. stays 1 0 None _
       (ap (λ (z : Over). over_type z (type_at ns (look c.args.table.now) c.args.x) (type_at ns (look c.args.table.now) c.args.v)) c.in-Keep.is ∙ if_no _ _ (c.if-is_truth.ensures ns));
 }

@@ -1,6 +1,7 @@
-use Rattle.std.proofs.Common.{◌≡◌, drop}
+use Rattle.std.proofs.Common.{◌≡◌}
 use Rattle.types.specs.Fields.{rise}
+use Rattle.types.proofs.Makings.{climb}
 use Rattle.types.proofs.making.rises.Given as goal
 
-abbrev pub invariant-loop-k : goal.invariant-loop-k
-invariant-loop-k l = rise 0 l.ranks ≡ rise l.at (drop l.k-index l.ranks)
+abbrev pub invariant-loop-pair : goal.invariant-loop-pair
+invariant-loop-pair l = (l.pair-iterator.size ≡ 2) × (rise 0 l.ranks ≡ climb l.pair-iterator.rest.now)

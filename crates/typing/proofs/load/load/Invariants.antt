@@ -4,7 +4,7 @@ use Rattle.typing.proofs.Loading.{Making}
 use Rattle.typing.proofs.load.load.Given as goal
 
 abbrev pub invariant-loop-p : goal.invariant-loop-p
-invariant-loop-p l = Making l.bytes l.names l.initial.table l.table (vec_items l.work.stack) l.top (vec_items l.work.heads) l.at l.count × Fit l.work
+invariant-loop-p l = Making l.bytes l.names l.initial.table l.table l.work.stack (vec_items l.work.heads) l.at l.count × Fit l.work
 
 abbrev pub decreases-loop-p : goal.decreases-loop-p
 decreases-loop-p l = vec_len l.work.heads

@@ -1,13 +1,8 @@
-use Rattle.std.proofs.Common.{None}
-use Rattle.types.proofs.Meanings.{grew_at}
-use Rattle.typing.proofs.DatumTold.{datum_none, datum_not, datum_some}
+use Rattle.typing.proofs.DatumTold.{datum_none, datum_not}
 use Rattle.typing.proofs.parts.written.Goals as goal
 
-pub returns-in_default : goal.returns-in_default
-returns-in_default c = let l = c.in_default.ensures in record { grew = l.grew; fit = l.fit; told = datum_none c.args.bytes.now c.args.names.now c.args.table.now _ c.args.at c.args.datum_at l.told }
+pub returns-in_err-x-clause-told : goal.returns-in_err-x-clause-told
+returns-in_err-x-clause-told c = rw c.from_residual.ensures (datum_none c.args.bytes.now c.args.names.now c.args.table.now _ c.args.at c.args.datum_at c.in_err-x.ensures.told)
 
-pub returns-in_default-is_of : goal.returns-in_default-is_of
-returns-in_default-is_of c = let l = c.in-Some.ensures in record { grew = grew_at l.grew None tt; fit = l.fit; told = datum_not c.args.bytes.now c.args.names.now c.args.table.now _ c.args.at c.args.datum_at c.in-Some.x l.told c.in_default-is_of.ensures }
-
-pub returns : goal.returns
-returns c = let l = c.in-Some.ensures in record { grew = l.grew; fit = l.fit; told = datum_some c.args.bytes.now c.args.names.now c.args.table.now _ c.args.at c.args.datum_at c.in-Some.x _ l.told c.in-Some-is_of.ensures }
+pub returns-in_err-is_of-clause-told : goal.returns-in_err-is_of-clause-told
+returns-in_err-is_of-clause-told c = rw c.from_residual-in_err-is_of.ensures (datum_not c.args.bytes.now c.args.names.now c.args.table.now _ c.args.at c.args.datum_at c.in_ok-x.x c.in_ok-x.ensures.told c.in_err-is_of.ensures)

@@ -1,9 +1,14 @@
-use Rattle.std.proofs.Common.{◌++◌}
+use Rattle.std.proofs.lemmas.Result.{err_from_is_err_and}
+use Rattle.operators.proofs.Refusing.{stopped}
+use Rattle.operators.specs.declared.came.Stop.TheVariants as stops
 use Rattle.unary.proofs.OfRecords.{field_turns, field_short}
 use Rattle.unary.proofs.of_records.fielded.Goals as goal
 
-pub returns-in-Some : goal.returns-in-Some
-returns-in-Some c = λ bs. field_turns bs c.args.name c.args.v (c.args.base.now ++ c.args.mem.now) c.args.top c.args.left _ c.in-Some.made c.in-Some.ensures
+pub returns-in_err-value-clause-turns : goal.returns-in_err-value-clause-turns
+returns-in_err-value-clause-turns c =
+    let p = err_from_is_err_and c.from_residual.result c.from_residual.ensures.1 in
+    let n = stopped c.as_field.result stops.NoRoom _ c.in_err-value.ensures.value in
+    rw (p.1, p.2, n.1) (λ bs. field_short bs c.args.name c.args.v _ c.args.memory.now.top c.args.left _ (rw n.0 at c.as_field.ensures.makes))
 
-pub returns-in-None : goal.returns-in-None
-returns-in-None c = λ bs. field_short bs c.args.name c.args.v (c.args.base.now ++ c.args.mem.now) c.args.top c.args.left _ c.in-None.ensures
+pub returns-clause-turns : goal.returns-clause-turns
+returns-clause-turns c = λ bs. field_turns bs c.args.name c.args.v _ c.args.memory.now.top c.args.left _ _ (rw c.in_ok-value.ensures.ok_part at c.as_field.ensures.makes)

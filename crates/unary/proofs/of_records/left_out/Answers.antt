@@ -1,18 +1,23 @@
-use Rattle.std.proofs.Common.{◌++◌, sym, arith, length-append}
+use Rattle.std.proofs.Common.{sym}
 use Rattle.std.proofs.lemmas.Result.{err_from_is_err_and}
+use Rattle.operators.proofs.Refusing.{stopped}
+use Rattle.operators.specs.declared.came.Stop.TheVariants as stops
 use Rattle.unary.proofs.OfRecords.{record_reads, without_no_record, without_turns, without_short}
 use Rattle.unary.proofs.of_records.left_out.Goals as goal
 
-pub returns-in_err-place : goal.returns-in_err-place
-returns-in_err-place c =
+pub returns-in_err-place-clause-turns : goal.returns-in_err-place-clause-turns
+returns-in_err-place-clause-turns c =
     let p = err_from_is_err_and c.from_residual.result c.from_residual.ensures.1 in
-    rw (p.1, p.2) (without_no_record c.args.bytes.now c.args.v (c.args.base.now ++ c.args.mem.now) c.args.top c.args.left _ (sym c.in_err-place.ensures) c.args.name)
+    rw (p.1, p.2) (without_no_record c.args.bytes.now c.args.v _ c.args.memory.now.top c.args.left _ (sym c.in_err-place.ensures) c.args.name)
 
 pub without-requires : goal.without-requires
-without-requires c = record { space = c.requires.space; within = omega (arith, c.requires.lies.room, length-append c.args.base.now c.args.mem.now); below = record_reads c.args.v (c.args.base.now ++ c.args.mem.now) c.args.top c.args.left c.in_ok-place.place (sym c.in_ok-place.ensures) c.requires.lies }
+without-requires c = record_reads c.args.v _ c.args.memory.now.top c.args.left c.in_ok-place.place (sym c.in_ok-place.ensures) c.requires
 
-pub returns-in-Some : goal.returns-in-Some
-returns-in-Some c = without_turns c.args.v (c.args.base.now ++ c.args.mem.now) c.args.top c.args.left c.in_ok-place.place (sym c.in_ok-place.ensures) c.args.bytes.now c.args.name _ c.in-Some.made c.in-Some.ensures
+pub returns-in_err-value-clause-turns : goal.returns-in_err-value-clause-turns
+returns-in_err-value-clause-turns c =
+    let p = err_from_is_err_and c.from_residual-in_err-value.result c.from_residual-in_err-value.ensures.1 in
+    let n = stopped c.without.result stops.NoRoom _ c.in_err-value.ensures.value in
+    rw (p.1, p.2, n.1) (without_short c.args.v _ c.args.memory.now.top c.args.left c.in_ok-place.place (sym c.in_ok-place.ensures) c.args.bytes.now c.args.name _ (rw n.0 at c.without.ensures.makes))
 
-pub returns-in-None : goal.returns-in-None
-returns-in-None c = without_short c.args.v (c.args.base.now ++ c.args.mem.now) c.args.top c.args.left c.in_ok-place.place (sym c.in_ok-place.ensures) c.args.bytes.now c.args.name _ c.in-None.ensures
+pub returns-clause-turns : goal.returns-clause-turns
+returns-clause-turns c = without_turns c.args.v _ c.args.memory.now.top c.args.left c.in_ok-place.place (sym c.in_ok-place.ensures) c.args.bytes.now c.args.name _ _ (rw c.in_ok-value.ensures.ok_part at c.without.ensures.makes)

@@ -5,10 +5,10 @@ use Rattle.format.specs.NameLaws.{no_parts}
 use Rattle.format.specs.RequestLaws.{request_laws}
 use Rattle.format.proofs.requests.RequestsSort.head.Goals as goal
 
-pub returns-in-Ok : goal.returns-in-Ok
-returns-in-Ok c =
-    let r = c.in-Ok.ensures in
-    record { opened = opened requests requests (no_parts requests) request_laws c.args.bytes.now c.in-Ok.length 0 r.thing r.begins refl (omega arith); says = r }
+pub returns-in_err-head-clause-opened : goal.returns-in_err-head-clause-opened
+returns-in_err-head-clause-opened c = grind (arith, unopened requests requests (no_parts requests) request_laws)
 
-pub returns-in-Err : goal.returns-in-Err
-returns-in-Err c = record { opened = unopened requests requests (no_parts requests) request_laws c.args.bytes.now c.in-Err.p c.in-Err.ensures; says = tt }
+pub returns-clause-opened : goal.returns-clause-opened
+returns-clause-opened c =
+    let r = c.in_ok-head.ensures in
+    opened requests requests (no_parts requests) request_laws c.args.bytes.now _ 0 r.thing r.begins refl (omega arith)

@@ -5,7 +5,7 @@ use Rattle.serving.proofs.requests.Requests.read_on.Goals as goal
 pub returns-then-eq : goal.returns-then-eq
 returns-then-eq c =
     let s = c.args.self.now in
-    record { same = (refl, refl); more = read_none s.to s.end (vec_items s.buffer) (vec_items c.read_behind.new.buffer) c.in-Err.ensures.front }
+    record { same = (refl, refl); more = read_none s.to s.end (vec_items s.buffer) (vec_items c.read_behind.new.buffer) c.read_behind.ensures.front }
 
 pub returns-in-Ok : goal.returns-in-Ok
 returns-in-Ok c =
@@ -15,4 +15,4 @@ returns-in-Ok c =
 pub returns-else-eq : goal.returns-else-eq
 returns-else-eq c =
     let s = c.args.self.now in
-    record { same = (refl, refl); more = read_none s.to s.end (vec_items s.buffer) (vec_items c.read_behind.new.buffer) c.in-Err.ensures.front }
+    record { same = (refl, refl); more = read_none s.to s.end (vec_items s.buffer) (vec_items c.read_behind.new.buffer) c.read_behind.ensures.front }
