@@ -23,9 +23,10 @@ pub record WordPut (at w : ℕ) (m n : List ℕ) : Type 0 where
   pub long : length n ≡ length m
   pub others : (k : ℕ) → ((k ≡ at) → ⊥) → slice_index n k ≡ slice_index m k
 
--- what is only read is the same, and memory is in use as far as it was
+-- what is only read is the same, and memory is in use as far as it was; what is made lies in the slice that was lent
 pub record Steady (m n : Memory) : Type 0 where
   pub frozen : n.kept.now ≡ m.kept.now
+  pub same : n.made.ghost_name ≡ m.made.ghost_name
   pub top : n.top ≡ m.top
 
 -- a value that was made, with where free memory begins after it
@@ -33,9 +34,10 @@ abbrev pub made_to : ℕ → Option Value → Option Made
 made_to top (Some v) = Some (record { value = v; top = top })
 made_to top None = None
 
--- what is only read is the same, and so many words more are in use
+-- what is only read is the same, and so many words more are in use; what is made lies in the slice that was lent
 pub record Moved (m n : Memory) (by : ℕ) : Type 0 where
   pub frozen : n.kept.now ≡ m.kept.now
+  pub same : n.made.ghost_name ≡ m.made.ghost_name
   pub top : n.top ≡ m.top + by
 
 -- there is no room for so many words, and all is as it was

@@ -156,12 +156,13 @@ impl<'a> Memory<'a> {
         Some(start)
     }
 
-    // Gives up what was made from a place on.
+    // Memory is free from that place on: what was made there is given up.
     pub fn release(&mut self, top: usize)
         requires over { length self.old.kept.now ≤ top }
-        requires within { top ≤ self.old.top }
+        requires within { top ≤ length (all self.old) }
         ensures words { all self.new ≡ all self.old }
         ensures frozen { self.new.kept.now ≡ self.old.kept.now }
+        ensures same { self.new.made.ghost_name ≡ self.old.made.ghost_name }
         ensures top { self.new.top ≡ top }
     {
         self.top = top;

@@ -10,5 +10,5 @@ returns-then-size-start g c =
     record {
       short = omega (arith, c.size.ensures, c.args.self.now.within, length-append c.args.self.now.kept.now c.args.self.now.made.now, short);
       words = refl;
-      steady = record { frozen = refl; top = refl };
+      steady = record { frozen = refl; same = refl; top = refl };
     }
