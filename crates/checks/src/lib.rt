@@ -16,8 +16,11 @@ pub const LIMIT: usize = 8192;
 pub fn within_limit(bytes: &[u8], schema_at: usize, types: usize, query_at: usize) -> Option<usize>
     ensures { WithinLimit bytes.now schema_at types query_at result }
 {
-    let schema = schema_parts(bytes.get(schema_at..)?, types, LIMIT)?;
-    let query = query_parts(bytes.get(query_at..)?, LIMIT - schema.parts)?;
+    // both places are looked at before the schema is walked, which takes as long as it has bytes
+    let schema_bytes = bytes.get(schema_at..)?;
+    let query_bytes = bytes.get(query_at..)?;
+    let schema = schema_parts(schema_bytes, types, LIMIT)?;
+    let query = query_parts(query_bytes, LIMIT - schema.parts)?;
     Some(schema.parts + query.parts)
 }
 

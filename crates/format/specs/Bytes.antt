@@ -1,6 +1,6 @@
 -- Numbers as bytes, the lowest first.
 use Rattle.std.specs.Prelude.{◌≡◌, ℕ, zero, suc, ◌+◌, ◌*◌, ◌/◌, ◌%◌, ◌^◌, ◌<◌, ◌≤◌, Bool, true, ◌&&◌, List, [], ◌∷◌, ◌++◌, length, refl}
-use Rattle.std.proofs.Common.{sym, ap, ap₂, ◌∙◌, arith, pow-suc, lt-ltb}
+use Rattle.std.proofs.Common.{sym, ap, ap₂, ◌∙◌, arith, pow-suc, mul_comm, mul_assoc, lt-ltb}
 use Rattle.query.specs.Types.{bytes}
 use Rattle.format.specs.Coding.{le}
 use Rattle.format.specs.Lists.{bytes_first}
@@ -60,3 +60,23 @@ pad (suc w) (x ∷ xs) h f =
     let p : x + 256 * r.n < 256 ^ w * 256 = omega (arith, r.fits) in
     let q : x + 256 * r.n < 256 ^ suc w = rw pow-suc p in
     record { rest = r.rest; n = x + 256 * r.n; fits = q; is = ap (λ (ys : List ℕ). x ∷ ys) r.is ∙ sym (le_step w x r.n g) }
+
+-- four bytes are the number that they stand for
+pub four_of : (a b c d : ℕ) → a < 256 → b < 256 → c < 256 → d < 256 → a ∷ b ∷ c ∷ d ∷ [] ≡ le 4 (a + 256 * (b + 256 * (c + 256 * d)))
+unfolding le
+four_of a b c d p q r s =
+    let last : d ∷ [] ≡ le 1 d = let e : d ≡ d % 256 = omega arith in ap (λ (v : ℕ). v ∷ []) e in
+    sym (le_step 3 a _ p ∙ ap (λ (v : List ℕ). a ∷ v) (le_step 2 b _ q ∙ ap (λ (v : List ℕ). b ∷ v) (le_step 1 c _ r ∙ ap (λ (v : List ℕ). c ∷ v) (sym last))))
+
+-- one number after another is a number
+pub le_then : (w v u a b : ℕ) → u ≡ w + v → a < 256 ^ w → le u (a + 256 ^ w * b) ≡ le w a ++ le v b
+unfolding le
+le_then zero v u a b e h = ap₂ (λ (m : ℕ) (n : ℕ). le m n) (omega arith) (omega arith)
+le_then (suc w) v zero a b e h = absurd (omega arith)
+le_then (suc w) v (suc u) a b e h =
+    let p : a < 256 ^ w * 256 = rw pow-suc at h in
+    let s : 256 ^ suc w * b ≡ 256 * (256 ^ w * b) = rw pow-suc (rw (mul_comm (256 ^ w) 256) (mul_assoc 256 (256 ^ w) b)) in
+    let low : (a + 256 ^ suc w * b) % 256 ≡ a % 256 = rw s (omega arith) in
+    let high : (a + 256 ^ suc w * b) / 256 ≡ a / 256 + 256 ^ w * b = rw s (omega arith) in
+    let ih = le_then w v u (a / 256) b (omega arith) (omega arith) in
+    ap₂ (λ (x : ℕ) (ys : List ℕ). x ∷ ys) low (ap (λ (n : ℕ). le u n) high ∙ ih)

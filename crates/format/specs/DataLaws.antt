@@ -7,8 +7,9 @@ use Rattle.query.specs.Data.{Name, Data, unit, num, truth, text, bag, rec, left,
 use Rattle.format.specs.Coding.{le, number, name, writes, AllFit, many, counted}
 use Rattle.format.specs.Wire.{names, write_names, truth_tag, write_data, write_datas, write_values, FitsData, FitsDatas, FitsValues, data_of}
 use Rattle.format.specs.Heads.{as_datas, as_fields, DataHead, unit_h, num_h, truth_h, text_h, bag_h, rec_h, left_h, right_h, write_data_head, FitsDataHead, data_heads, data_arity, first_datum, build_data}
+use Rattle.query.specs.Types.{bytes}
 use Rattle.format.specs.Reading.{Begins, Stuck, ReadAs}
-use Rattle.format.specs.Nodes.{TellsData}
+use Rattle.format.specs.Nodes.{NodeRead, TellsData}
 use Rattle.format.specs.declared.node.DataNode.{DataNode}
 use Rattle.format.specs.Lists.{bytes_none, from, bytes_typed}
 use Rattle.format.specs.Codings.{Out, number_way, name_way}
@@ -234,3 +235,15 @@ module _ (xs : List ℕ) (typed : (j : ℕ) → Fits w8 (slice_index xs j)) wher
   pub data_empty : length xs ≡ 0 → Stuck data_heads xs 0
   unfolding FitsDataHead
   data_empty = stuck_empty data_heads data_table data_good (omega arith) data_tagged unit_h tt xs
+
+-- the same, with how many parts follow
+module _ (xs : List ℕ) (b : bytes xs ≡ true) where
+  pub data_alone_parts : (t k : ℕ) (node : DataNode) (l : (entry data_table t).load.T) → 0 < length xs → slice_index xs 0 ≡ t → (entry data_table t).load.Fits l → (entry data_table t).load.write l ≡ []
+      → TellsData node ((entry data_table t).make l) → k ≡ data_arity ((entry data_table t).make l) → k < 2 ^ 32 → NodeRead data_heads data_arity TellsData xs node k 1
+  data_alone_parts t k node l n g f w s a m =
+      node_alone data_heads data_table data_good (omega arith) data_tagged (λ (v : ℕ) (h : DataHead). TellsData node h × (v ≡ data_arity h) × (v < 2 ^ 32)) xs t k l b n g f w (s, a, m)
+
+  pub data_begins_parts : (t k f e : ℕ) (node : DataNode) (l : (entry data_table t).load.T) → 0 < length xs → slice_index xs 0 ≡ t → Begins (entry data_table t).load (from 1 xs) f l → e ≡ 1 + f
+      → TellsData node ((entry data_table t).make l) → k ≡ data_arity ((entry data_table t).make l) → k < 2 ^ 32 → NodeRead data_heads data_arity TellsData xs node k e
+  data_begins_parts t k f e node l n g r q s a m =
+      node_begins data_heads data_table data_good (omega arith) data_tagged (λ (v : ℕ) (h : DataHead). TellsData node h × (v ≡ data_arity h) × (v < 2 ^ 32)) xs t f e k l b n g r q (s, a, m)

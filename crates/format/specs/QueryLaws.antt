@@ -1,5 +1,5 @@
 -- Queries are trees, and their heads are told by their tags.
-use Rattle.std.specs.Prelude.{◌≡◌, ℕ, ◌+◌, ◌^◌, ◌<◌, ◌≤◌, List, [], ◌∷◌, ◌++◌, length, take, slice_index, refl}
+use Rattle.std.specs.Prelude.{◌≡◌, ℕ, ◌+◌, ◌^◌, ◌<◌, ◌≤◌, true, List, [], ◌∷◌, ◌++◌, length, take, slice_index, refl}
 use Rattle.std.proofs.Common.{sym, ap, ◌∙◌, arith, Fits}
 use Rattle.std.specs.Int.{w8}
 use Rattle.std.proofs.lemmas.List.{append-nil, drop_more}
@@ -8,8 +8,9 @@ use Rattle.query.specs.Query.{Op2, equal, and, or, plus, less, join_bags, join_r
 use Rattle.format.specs.Coding.{le, number, name, writes, AllFit, many, counted, both_of}
 use Rattle.format.specs.Wire.{write_ty, FitsTy, write_data, FitsData, tag_2, write_1, Fits1, write_query, FitsQuery, types, data_of, queries}
 use Rattle.format.specs.Heads.{QueryHead, table_q, it_q, env_q, just_q, two_q, one_q, each_q, keep_q, product_q, matched_q, default_q, left_q, right_q, either_q, then_q, with_env_q, write_query_head, FitsQueryHead, query_heads, query_arity, first_query, second_query, build_query, ty_heads, ty_arity, data_heads, data_arity}
+use Rattle.query.specs.Types.{bytes}
 use Rattle.format.specs.Reading.{OneWay, Begins, Stuck, ReadAs}
-use Rattle.format.specs.Nodes.{TellsQuery, PlainHead}
+use Rattle.format.specs.Nodes.{NodeRead, TellsQuery, PlainHead}
 use Rattle.format.specs.declared.node.QueryNode.{QueryNode}
 use Rattle.format.specs.Lists.{bytes_none, from, bytes_typed}
 use Rattle.format.specs.Codings.{Out, number_way, name_way, way_both, both_splits}
@@ -363,4 +364,24 @@ module _ (xs : List ℕ) (typed : (j : ℕ) → Fits w8 (slice_index xs j)) wher
         thing = h.head;
         begins = record { within = n; fits = h.fits; is = ap (λ (v : List ℕ). take 1 v) (drop_more xs 0 0 n) ∙ sym h.written };
         says = h.tells;
+      }
+
+-- the same, with how many parts follow
+module _ (xs : List ℕ) (b : bytes xs ≡ true) where
+  pub query_alone_parts : (t k : ℕ) (node : QueryNode) (l : (entry query_table t).load.T) → 0 < length xs → slice_index xs 0 ≡ t → (entry query_table t).load.Fits l → (entry query_table t).load.write l ≡ []
+      → TellsQuery node ((entry query_table t).make l) → k ≡ query_arity ((entry query_table t).make l) → k < 2 ^ 32 → NodeRead query_heads query_arity TellsQuery xs node k 1
+  query_alone_parts t k node l n g f w s a m =
+      node_alone query_heads query_table query_good (omega arith) query_tagged (λ (v : ℕ) (h : QueryHead). TellsQuery node h × (v ≡ query_arity h) × (v < 2 ^ 32)) xs t k l b n g f w (s, a, m)
+
+  pub query_begins_parts : (t k f e : ℕ) (node : QueryNode) (l : (entry query_table t).load.T) → 0 < length xs → slice_index xs 0 ≡ t → Begins (entry query_table t).load (from 1 xs) f l → e ≡ 1 + f
+      → TellsQuery node ((entry query_table t).make l) → k ≡ query_arity ((entry query_table t).make l) → k < 2 ^ 32 → NodeRead query_heads query_arity TellsQuery xs node k e
+  query_begins_parts t k f e node l n g r q s a m =
+      node_begins query_heads query_table query_good (omega arith) query_tagged (λ (v : ℕ) (h : QueryHead). TellsQuery node h × (v ≡ query_arity h) × (v < 2 ^ 32)) xs t f e k l b n g r q (s, a, m)
+
+  pub plain_read_parts : (node : QueryNode) (k e : ℕ) → 0 < length xs → (h : PlainHead (slice_index xs 0) node) → k ≡ query_arity h.head → k < 2 ^ 32 → e ≡ 1 → NodeRead query_heads query_arity TellsQuery xs node k e
+  plain_read_parts node k e n h a m q =
+      record {
+        thing = h.head;
+        begins = record { within = omega (arith, q); fits = h.fits; is = ap (λ (v : ℕ). take v xs) q ∙ ap (λ (v : List ℕ). take 1 v) (drop_more xs 0 0 n) ∙ sym h.written };
+        says = (h.tells, a, m);
       }

@@ -1,5 +1,5 @@
 -- Types are trees, and their heads are told by their tags.
-use Rattle.std.specs.Prelude.{◌≡◌, ℕ, suc, ◌+◌, ◌^◌, ◌<◌, ◌≤◌, List, [], ◌∷◌, ◌++◌, length, slice_index, refl}
+use Rattle.std.specs.Prelude.{◌≡◌, ℕ, suc, ◌+◌, ◌^◌, ◌<◌, ◌≤◌, true, List, [], ◌∷◌, ◌++◌, length, slice_index, refl}
 use Rattle.std.proofs.Common.{sym, ap, ap₂, subst, arith, Fits}
 use Rattle.std.specs.Int.{w8}
 use Rattle.std.proofs.lemmas.List.{append-nil}
@@ -8,8 +8,9 @@ use Rattle.query.specs.Query.{Ty, a_unit, a_num, a_truth, a_text, a_bag, a_rec, 
 use Rattle.format.specs.Coding.{name, writes, AllFit, many, counted}
 use Rattle.format.specs.Wire.{names_ty, write_names, write_ty, write_tys, FitsTy, FitsTys, types}
 use Rattle.format.specs.Heads.{as_tys, TyHead, unit_t, num_t, truth_t, text_t, bag_t, rec_t, either_t, write_ty_head, FitsTyHead, ty_heads, ty_arity, first_ty_of, second_ty_of, build_ty}
+use Rattle.query.specs.Types.{bytes}
 use Rattle.format.specs.Reading.{Begins, Stuck, ReadAs}
-use Rattle.format.specs.Nodes.{TellsType}
+use Rattle.format.specs.Nodes.{NodeRead, TellsType}
 use Rattle.format.specs.declared.node.TypeNode.{TypeNode}
 use Rattle.format.specs.Lists.{from, bytes_typed}
 use Rattle.format.specs.Codings.{Out}
@@ -191,3 +192,15 @@ module _ (xs : List ℕ) (typed : (j : ℕ) → Fits w8 (slice_index xs j)) wher
   pub ty_empty : length xs ≡ 0 → Stuck ty_heads xs 0
   unfolding FitsTyHead
   ty_empty = stuck_empty ty_heads ty_table ty_good (omega arith) ty_tagged unit_t tt xs
+
+-- the same, with how many parts follow
+module _ (xs : List ℕ) (b : bytes xs ≡ true) where
+  pub ty_alone_parts : (t k : ℕ) (node : TypeNode) (l : (entry ty_table t).load.T) → 0 < length xs → slice_index xs 0 ≡ t → (entry ty_table t).load.Fits l → (entry ty_table t).load.write l ≡ []
+      → TellsType node ((entry ty_table t).make l) → k ≡ ty_arity ((entry ty_table t).make l) → k < 2 ^ 32 → NodeRead ty_heads ty_arity TellsType xs node k 1
+  ty_alone_parts t k node l n g f w s a m =
+      node_alone ty_heads ty_table ty_good (omega arith) ty_tagged (λ (v : ℕ) (h : TyHead). TellsType node h × (v ≡ ty_arity h) × (v < 2 ^ 32)) xs t k l b n g f w (s, a, m)
+
+  pub ty_begins_parts : (t k f e : ℕ) (node : TypeNode) (l : (entry ty_table t).load.T) → 0 < length xs → slice_index xs 0 ≡ t → Begins (entry ty_table t).load (from 1 xs) f l → e ≡ 1 + f
+      → TellsType node ((entry ty_table t).make l) → k ≡ ty_arity ((entry ty_table t).make l) → k < 2 ^ 32 → NodeRead ty_heads ty_arity TellsType xs node k e
+  ty_begins_parts t k f e node l n g r q s a m =
+      node_begins ty_heads ty_table ty_good (omega arith) ty_tagged (λ (v : ℕ) (h : TyHead). TellsType node h × (v ≡ ty_arity h) × (v < 2 ^ 32)) xs t f e k l b n g r q (s, a, m)

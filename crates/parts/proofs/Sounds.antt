@@ -116,20 +116,28 @@ types_in [] = omega arith
 types_in (t ∷ ts) = omega (arith, types_in ts)
 
 module _ (count limit : ℕ) (xs : List ℕ) where
-  pub schema_told : (r : Option Counted) → Measures (many types count) (total size_t) (all_hold sound) limit xs r → SchemaTold count limit xs (is_some r)
-  schema_told None m ss rest f q l = sym (sym (schema_sound ss) ∙ m.measured ss rest f q (omega (arith, types_in ss)))
-  schema_told (Some c) m ss rest f q l = sym (sym (schema_sound ss) ∙ (m.measured ss rest f q).0)
+  pub types_fail : Measures (many types count) (total size_t) (all_hold sound) limit xs None → ToldInFront (many types count) (total size_t) all_sound limit xs None
+  types_fail m = record { finds = λ ss rest f q l. sym (schema_sound ss) ∙ m.measured ss rest f q l; within = tt }
 
+  pub types_found : (c : Counted) → Measures (many types count) (total size_t) (all_hold sound) limit xs (Some c) → ToldInFront (many types count) (total size_t) all_sound limit xs (Some c.length)
+  types_found c m = record { finds = λ ss rest f q l. let t = m.measured ss rest f q in (sym (schema_sound ss) ∙ t.0, t.3); within = m.bounded.1 }
+
+  pub schema_told : (r : Option ℕ) → ToldInFront (many types count) (total size_t) all_sound limit xs r → SchemaTold count limit xs (is_some r)
+  schema_told None c ss rest f q l = sym (c.finds ss rest f q (omega (arith, types_in ss)))
+  schema_told (Some n) c ss rest f q l = sym (c.finds ss rest f q (omega (arith, types_in ss))).0
+
+-- one type is a row of one
 module _ (limit : ℕ) (xs : List ℕ) where
   one_written : (u : Ty) (rest : List ℕ) → xs ≡ write_ty u ++ rest → xs ≡ writes types (u ∷ []) ++ rest
   one_written u rest q = q ∙ ap (λ (v : List ℕ). v ++ rest) (sym (append-nil (write_ty u)))
 
-  pub type_fails : Measures (many types 1) (total size_t) (all_hold sound) limit xs None → ToldInFront types size_t sound limit xs None
-  type_fails m = record { finds = λ u rest f q l. and_end (sound u) ∙ m.measured (u ∷ []) rest (refl, (f, tt)) (one_written u rest q) (omega arith); within = tt }
+  one_sounds : (u : Ty) → sound u ≡ all_sound (u ∷ [])
+  one_sounds u = and_end (sound u) ∙ schema_sound (u ∷ [])
 
-  pub type_found : (c : Counted) → Measures (many types 1) (total size_t) (all_hold sound) limit xs (Some c) → ToldInFront types size_t sound limit xs (Some c.length)
-  type_found c m =
+  pub type_told : (r : Option ℕ) → ToldInFront (many types 1) (total size_t) all_sound limit xs r → ToldInFront types size_t sound limit xs r
+  type_told None c = record { finds = λ u rest f q l. one_sounds u ∙ c.finds (u ∷ []) rest (refl, (f, tt)) (one_written u rest q) (omega arith); within = tt }
+  type_told (Some n) c =
       record {
-        finds = λ u rest f q l. let t = m.measured (u ∷ []) rest (refl, (f, tt)) (one_written u rest q) in (and_end (sound u) ∙ t.0, t.3 ∙ ap length (append-nil (write_ty u)));
-        within = m.bounded.1;
+        finds = λ u rest f q l. let t = c.finds (u ∷ []) rest (refl, (f, tt)) (one_written u rest q) (omega arith) in (one_sounds u ∙ t.0, t.1 ∙ ap length (append-nil (write_ty u)));
+        within = c.within;
       }

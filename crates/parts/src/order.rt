@@ -2,8 +2,10 @@
 ghost use Rattle.std.specs.Prelude.{◌≡◌};
 ghost use Rattle.query.specs.Data.{less_text};
 ghost use Rattle.query.specs.Types.{sound};
-ghost use Rattle.query.specs.Size.{size_t};
+ghost use Rattle.query.specs.Size.{size_t, all_sound};
+ghost use Rattle.format.specs.Coding.{many};
 ghost use Rattle.format.specs.Wire.{types as all_types};
+ghost use Rattle.parts.specs.Counts.{total};
 ghost use Rattle.parts.specs.Orders.{RiseInFront, NamesTold, HeadTold, ToldInFront, SchemaTold};
 
 use crate::measured::{Front, Measured, measure};
@@ -92,7 +94,14 @@ impl Measured for SoundTypes {
 pub fn sound_type(bytes: &[u8], limit: usize) -> Option<usize>
     ensures { ToldInFront all_types size_t sound limit bytes.now result }
 {
-    let found = measure::<SoundTypes>(bytes, 1, limit)?;
+    sound_types(bytes, 1, limit)
+}
+
+// How many bytes the `count` types in front have, if all are sound; nothing if not all are.
+fn sound_types(bytes: &[u8], count: usize, limit: usize) -> Option<usize>
+    ensures { ToldInFront (many all_types count) (total size_t) all_sound limit bytes.now result }
+{
+    let found = measure::<SoundTypes>(bytes, count, limit)?;
     Some(found.length)
 }
 
@@ -100,5 +109,5 @@ pub fn sound_type(bytes: &[u8], limit: usize) -> Option<usize>
 pub fn sound_schema(bytes: &[u8], count: usize, limit: usize) -> bool
     ensures { SchemaTold count limit bytes.now result }
 {
-    measure::<SoundTypes>(bytes, count, limit).is_some()
+    sound_types(bytes, count, limit).is_some()
 }

@@ -2,4 +2,4 @@ use Rattle.parts.proofs.Sounds.{schema_told}
 use Rattle.parts.proofs.order.sound_schema.Goals as goal
 
 pub returns : goal.returns
-returns c = rw c.is_some.ensures (schema_told c.args.count c.args.limit c.args.bytes.now _ c.measure.ensures)
+returns c = rw c.is_some.ensures (schema_told c.args.count c.args.limit c.args.bytes.now _ c.sound_types.ensures)
