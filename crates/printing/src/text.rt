@@ -25,7 +25,10 @@ fn show_byte(byte: u8, out: &mut Vec<u8>) -> Result<(), AllocError>
         }
         b'"' => out.extend_from_slice(b"\\\""),
         b'\\' => out.extend_from_slice(b"\\\\"),
-        _ => out.extend_from_slice(&[byte]),
+        _ => {
+            out.push(byte)?;
+            Ok(())
+        }
     }
 }
 

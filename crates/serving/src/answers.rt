@@ -32,9 +32,7 @@ pub fn answer_one<D: Teller>(
 ) -> Result<(), AllocError>
     ensures { OnOk result (D.tells bytes.now numbers work out.old.items out.new.items) }
 {
-    make_large(memory, numbers)?;
-    let lent = &mut memory.as_mut_slice()[0..numbers];
-    desk.tell(heap, bytes, lent, work, out)
+    desk.answer_one(heap, bytes, numbers, memory, work, out)
 }
 
 // Answers all requests of the file.

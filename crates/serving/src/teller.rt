@@ -1,6 +1,7 @@
 // A desk as it is served: it tells each request its answer by a line.
 ghost use Rattle.std.specs.Prelude.{ℕ, Bool, List, length, OnOk};
 
+use crate::answers::make_large;
 use std::alloc::{AllocError, Global};
 
 pub trait Teller: Drop {
@@ -21,4 +22,21 @@ pub trait Teller: Drop {
         out: &mut Vec<u8>,
     ) -> Result<(), AllocError>
         ensures { OnOk result (tells bytes.now (length lent.old) work out.old.items out.new.items) };
+
+    // Appends the line of the answer to a request, with so many numbers lent of a memory that is made large enough.
+    fn answer_one(
+        &mut self,
+        heap: Global,
+        bytes: &[u8],
+        numbers: usize,
+        memory: &mut Vec<u64>,
+        work: bool,
+        out: &mut Vec<u8>,
+    ) -> Result<(), AllocError>
+        ensures { OnOk result (tells bytes.now numbers work out.old.items out.new.items) }
+    {
+        make_large(memory, numbers)?;
+        let lent = &mut memory.as_mut_slice()[0..numbers];
+        self.tell(heap, bytes, lent, work, out)
+    }
 }
