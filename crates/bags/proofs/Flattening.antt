@@ -126,6 +126,7 @@ module _ (p : Place) (m : List ℕ) (i total : ℕ) (s : Counted p m i total) wh
 -- the things of some bags lie where free memory began, and those of the rest are to come
 pub record Filled (p : Place) (m n : Memory) (i : ℕ) : Type 0 where
   pub frozen : n.kept.now ≡ m.kept.now
+  pub same : n.made.ghost_name ≡ m.made.ghost_name
   pub kept : Kept m.top (all m) (all n)
   pub over : m.top ≤ n.top
   pub so_far : (bs : List ℕ) (u : Used) (ds : Datas) → BagLies bs (all m) p ds u m.top →
@@ -133,7 +134,7 @@ pub record Filled (p : Place) (m n : Memory) (i : ℕ) : Type 0 where
 
 pub fill_begins : (p : Place) (m : Memory) → Filled p m m 0
 unfolding rest join how_many HoldsAll
-fill_begins p m = record { frozen = refl; kept = kept_refl; over = omega arith; so_far = λ bs u ds b. (none, refl, omega arith, refl) }
+fill_begins p m = record { frozen = refl; same = refl; kept = kept_refl; over = omega arith; so_far = λ bs u ds b. (none, refl, omega arith, refl) }
 
 module _ (p : Place) (m n : Memory) (i : ℕ) (s : Filled p m n i) where
   -- a slot below the top is as it was
@@ -159,6 +160,7 @@ module _ (p : Place) (m n : Memory) (i : ℕ) (s : Filled p m n i) where
       let c = e.copied in
       record {
         frozen = e.moved.frozen ∙ s.frozen;
+        same = e.moved.same ∙ s.same;
         kept = kept_trans s.kept c.kept s.over;
         over = omega (arith, s.over, e.moved.top);
         so_far = λ bs u ds b.
@@ -185,6 +187,7 @@ module _ (p : Place) (m n : Memory) (i : ℕ) (s : Filled p m n i) where
   fill_skips v lt e no-b =
       record {
         frozen = s.frozen;
+        same = s.same;
         kept = s.kept;
         over = s.over;
         so_far = λ bs u ds b.
@@ -250,3 +253,13 @@ flat_no_bag p m top end c = record { kept = kept_refl; means = λ bs u ds b f. f
 pub not_counted : (p : Place) (m : List ℕ) (top end : ℕ) (r : Option ℕ) (e : NotFlat) → Counts p m r → Err e ≡ ok_or r unflat.NoBag → Flattens p m top m end (Err e)
 not_counted p m top end None e c h = let z : ◌≡◌ {A = Result ℕ NotFlat} (Err e) (Err unflat.NoBag) = h in let y : e ≡ unflat.NoBag = cc in rw y (flat_no_bag p m top end c)
 not_counted p m top end (Some k) e c h = absurd (let z : ◌≡◌ {A = Result ℕ NotFlat} (Err e) (Ok k) = h in let y : ⊥ = cc in y)
+
+-- there is no room for so many
+pub flat_no_room : (p : Place) (m : List ℕ) (top end k : ℕ) → Counts p m (Some k) → length m < top + 3 * k → Flattens p m top m end (Err (unflat.NoRoom k))
+flat_no_room p m top end k c short =
+    record {
+      kept = kept_refl;
+      means = λ bs u ds b.
+          let y = c.means bs u ds top b in
+          (joined_all ds, record { flat = λ f. flat_joins ds f y.0; many = y.1 }, omega (arith, y.1, short));
+    }

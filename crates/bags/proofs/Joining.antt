@@ -1,10 +1,10 @@
 -- One value in a bag, and two bags in one.
-use Rattle.std.proofs.Common.{◌≡◌, ℕ, ◌+◌, ◌*◌, List, length, Some, None, sym, refl, ap, subst, arith}
+use Rattle.std.proofs.Common.{◌≡◌, ℕ, ◌+◌, ◌*◌, ◌<◌, List, length, Some, None, sym, refl, ap, subst, arith}
 use Rattle.query.specs.Data.{Datas, none, more, join, how_many}
 use Rattle.values.specs.Memory.{Used, Holds, HoldsAll, Kept, loaded, Agree}
 use Rattle.values.specs.Lent.{all, Pushed, Appended, Crowded}
 use Rattle.values.specs.Making.{BagLies}
-use Rattle.values.proofs.Frame.{kept_agree, kept_less, kept_trans, stored_kept, holds_kept, all_kept}
+use Rattle.values.proofs.Frame.{kept_refl, kept_agree, kept_less, kept_trans, stored_kept, holds_kept, all_kept}
 use Rattle.values.proofs.Copy.{all_copied, all_join}
 use Rattle.values.specs.declared.lent.Memory.{Memory}
 use Rattle.values.specs.declared.value.Place.{Place}
@@ -35,6 +35,9 @@ module _ (x y : Place) (m : Memory) where
 
   pub first_no_room : {n : Memory} → Crowded m n (3 * x.count) → Joins x y (all m) m.top (all n) None
   first_no_room c = record { kept = crowded_kept c; means = λ bs u ds es g h. omega (arith, counted g h, ap length c.words, c.short) }
+
+  pub no_room_for_both : length (all m) < m.top + 3 * (x.count + y.count) → Joins x y (all m) m.top (all m) None
+  no_room_for_both short = record { kept = kept_refl; means = λ bs u ds es g h. omega (arith, counted g h, short) }
 
   module _ {n : Memory} {start : ℕ} (c : Appended x m n start) where
     pub second_no_room : {o : Memory} → Crowded n o (3 * y.count) → Joins x y (all m) m.top (all o) None

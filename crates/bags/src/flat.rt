@@ -41,10 +41,14 @@ pub fn count_all(row: &Row, place: Place) -> Option<u128>
 pub fn flat(memory: &mut Memory, place: Place) -> Result<Flattened, NotFlat>
     requires { ABag place (all memory.old) memory.old.top }
     ensures frozen { memory.new.kept.now ≡ memory.old.kept.now }
+    ensures same { memory.new.made.ghost_name ≡ memory.old.made.ghost_name }
     ensures makes { Flattens place (all memory.old) memory.old.top (all memory.new) memory.new.top result }
 {
     let count = count_all(&memory.row(), place).ok_or(NotFlat::NoBag)?;
     let start = memory.top;
+    if (((memory.size() - start) / 3) as u128) < count {
+        return Err(NotFlat::NoRoom(count));
+    }
     for i in 0..place.count {
         if let Value::Bag(p) = memory.nth(place.start, i) {
             memory.append(p).ok_or(NotFlat::NoRoom(count))?;

@@ -10,6 +10,7 @@ use values::value::{Place, Value};
 // A bag of one value, if there is room.
 pub fn in_bag(memory: &mut Memory, value: Value) -> Option<Value>
     ensures frozen { memory.new.kept.now ≡ memory.old.kept.now }
+    ensures same { memory.new.made.ghost_name ≡ memory.old.made.ghost_name }
     ensures makes { PutsInBag value (all memory.old) memory.old.top (all memory.new) (made_to memory.new.top result) }
 {
     let start = memory.push(value)?;
@@ -21,8 +22,12 @@ pub fn join_bags(memory: &mut Memory, x: Place, y: Place) -> Option<Value>
     requires first { Readable x memory.old.top }
     requires second { Readable y memory.old.top }
     ensures frozen { memory.new.kept.now ≡ memory.old.kept.now }
+    ensures same { memory.new.made.ghost_name ≡ memory.old.made.ghost_name }
     ensures makes { Joins x y (all memory.old) memory.old.top (all memory.new) (made_to memory.new.top result) }
 {
+    if (memory.size() - memory.top) / 3 < x.count + y.count {
+        return None;
+    }
     let start = memory.append(x)?;
     memory.append(y)?;
     Some(Value::Bag(Place {

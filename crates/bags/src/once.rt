@@ -26,6 +26,7 @@ pub fn is_in(bytes: &[u8], row: &Row, value: Value, place: Place, depth: usize) 
 pub fn distinct(bytes: &[u8], memory: &mut Memory, place: Place, depth: usize) -> Option<Value>
     requires { Readable place memory.old.top }
     ensures frozen { memory.new.kept.now ≡ memory.old.kept.now }
+    ensures same { memory.new.made.ghost_name ≡ memory.old.made.ghost_name }
     ensures makes { TakesOnce bytes.now place (all memory.old) depth memory.old.top (all memory.new) (made_to memory.new.top result) }
 {
     memory.reserve::<Value>(place.count)?;

@@ -23,12 +23,13 @@ field_same m n at top k h = rw (k.same at (omega arith), k.same (at + 1) (omega 
 -- so many fields were gone through, and so many of them kept
 pub record Keeping (told : ℕ → Place → Bool → Type 0) (p : Place) (m n : Memory) (i count : ℕ) : Type 0 where
   pub frozen : n.kept.now ≡ m.kept.now
+  pub same : n.made.ghost_name ≡ m.made.ghost_name
   pub top : n.top ≡ m.top + 5 * count
   pub kept : Kept m.top (all m) (all n)
   pub so_far : (bs : List ℕ) (u : Used) (fs : Fields) (to_come : ℕ → Fields) → RecordLies bs (all m) p fs u m.top → ToCome told bs (all m) p u fs to_come → Built bs (all n) m.top count u (to_come 0) (to_come i)
 
 pub keep_begins : (told : ℕ → Place → Bool → Type 0) (p : Place) (m : Memory) → Keeping told p m m 0 0
-keep_begins told p m = record { frozen = refl; top = omega arith; kept = kept_refl; so_far = λ bs u fs c r s. built_none bs (all m) m.top u (c 0) }
+keep_begins told p m = record { frozen = refl; same = refl; top = omega arith; kept = kept_refl; so_far = λ bs u fs c r s. built_none bs (all m) m.top u (c 0) }
 
 module _ (told : ℕ → Place → Bool → Type 0) (p : Place) (m n : Memory) (i count : ℕ) (g : Keeping told p m n i count) where
   module _ (below : FieldsBelow p m.top) (f : Field) (lt : i < p.count) (e : f ≡ loaded_field (all n) (p.start + 5 * i)) where
@@ -43,6 +44,7 @@ module _ (told : ℕ → Place → Bool → Type 0) (p : Place) (m n : Memory) (
     keep_not t =
         record {
           frozen = g.frozen;
+          same = g.same;
           top = g.top;
           kept = g.kept;
           so_far = λ bs u fs c r s.
@@ -66,6 +68,7 @@ module _ (told : ℕ → Place → Bool → Type 0) (p : Place) (m n : Memory) (
     keep_push {o} t s =
         record {
           frozen = s.moved.frozen ∙ g.frozen;
+          same = s.moved.same ∙ g.same;
           top = omega (arith, g.top, s.moved.top);
           kept = kept_trans g.kept (stored_field_kept {top = m.top} s.put (omega (arith, g.top))) (omega arith);
           so_far = λ bs u fs c r x.

@@ -9,6 +9,7 @@ use values::value::{Field, Place, Value};
 // A record of one field, if there is room.
 pub fn as_field(memory: &mut Memory, name: Place, value: Value) -> Option<Value>
     ensures frozen { memory.new.kept.now ≡ memory.old.kept.now }
+    ensures same { memory.new.made.ghost_name ≡ memory.old.made.ghost_name }
     ensures makes { MakesField name value (all memory.old) memory.old.top (all memory.new) (made_to memory.new.top result) }
 {
     let start = memory.push(Field { name, value })?;

@@ -13,6 +13,7 @@ fn chosen<F: Fn(usize, Place) -> bool>(memory: &mut Memory, place: Place, keeps:
     requires calls { F.IsAlwaysCallable keeps }
     requires below { FieldsBelow place memory.old.top }
     ensures frozen { memory.new.kept.now ≡ memory.old.kept.now }
+    ensures same { memory.new.made.ghost_name ≡ memory.old.made.ghost_name }
     ensures makes { Keeps (λ i name b. F.post keeps i name b) place (all memory.old) memory.old.top (all memory.new) (made_to memory.new.top result) }
 {
     let start = memory.top;
@@ -31,6 +32,7 @@ fn chosen<F: Fn(usize, Place) -> bool>(memory: &mut Memory, place: Place, keeps:
 pub fn without(bytes: &[u8], memory: &mut Memory, name: Place, place: Place) -> Option<Value>
     requires { FieldsBelow place memory.old.top }
     ensures frozen { memory.new.kept.now ≡ memory.old.kept.now }
+    ensures same { memory.new.made.ghost_name ≡ memory.old.made.ghost_name }
     ensures makes { LeavesOut bytes.now name place (all memory.old) memory.old.top (all memory.new) (made_to memory.new.top result) }
 {
     let gone = index_of(bytes, &memory.row(), name, place);
@@ -64,6 +66,7 @@ pub fn only(bytes: &[u8], memory: &mut Memory, names: Place, place: Place) -> Op
     requires names { names.start ≤ length bytes.now }
     requires below { FieldsBelow place memory.old.top }
     ensures frozen { memory.new.kept.now ≡ memory.old.kept.now }
+    ensures same { memory.new.made.ghost_name ≡ memory.old.made.ghost_name }
     ensures makes { TakesOnly bytes.now names.start names.count place (all memory.old) memory.old.top (all memory.new) (made_to memory.new.top result) }
 {
     chosen(memory, place, |_, name| one_of(bytes, names, name))

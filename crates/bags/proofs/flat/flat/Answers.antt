@@ -1,6 +1,6 @@
 use Rattle.std.proofs.Common.{arith}
 use Rattle.std.proofs.lemmas.Result.{err_from_is_err_and}
-use Rattle.bags.proofs.Flattening.{fill_begins, fill_readable, fill_more, fill_skips, not_appended, flat_fits, flat_made, not_counted}
+use Rattle.bags.proofs.Flattening.{fill_begins, fill_readable, fill_more, fill_skips, not_appended, flat_fits, flat_made, not_counted, flat_no_room}
 use Rattle.bags.proofs.flat.flat.Goals as goal
 use Rattle.bags.proofs.flat.flat.Goals.{in-Bag+in_ok-ok_or, in_default}
 
@@ -8,6 +8,11 @@ pub returns-in_err-count-clause-makes : goal.returns-in_err-count-clause-makes
 returns-in_err-count-clause-makes c =
     let p = err_from_is_err_and c.from_residual.result c.from_residual.ensures.1 in
     rw (p.1, p.2) (not_counted c.args.place _ _ _ c.count_all.result _ (rw c.row.ensures at c.count_all.ensures) c.in_err-count.ensures.value)
+
+pub returns-then-size-start-clause-makes : goal.returns-then-size-start-clause-makes
+returns-then-size-start-clause-makes c =
+    let counted = rw (c.row.ensures, c.in_ok-count.ensures.ok_part) at c.count_all.ensures in
+    flat_no_room c.args.place _ _ _ c.in_ok-count.count counted (omega (arith, c.if-size-start.true, c.size.ensures))
 
 pub loop-i-init : goal.loop-i-init
 loop-i-init c = fill_begins c.args.place c.args.memory.now
