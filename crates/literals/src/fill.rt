@@ -14,6 +14,7 @@ use values::value::Place;
 fn fill_one(spot: Spot, memory: &mut Memory, slots: Place, next: usize) -> Option<usize>
     requires room { Reserved slots (length memory.old.kept.now) memory.old.top }
     ensures frozen { memory.new.kept.now ≡ memory.old.kept.now }
+    ensures same { memory.new.made.ghost_name ≡ memory.old.made.ghost_name }
     ensures kept { Kept slots.start (all memory.old) (all memory.new) }
     ensures inside { FillInside memory.old.top (all memory.new) (filled memory.new.top result) }
     ensures means { FillsOne spot.entry.bytes.now spot.entry.at spot.entry.ty slots (so_far memory.old.top next) (all memory.old) (all memory.new) (filled memory.new.top result) }
@@ -39,6 +40,7 @@ pub fn fill(
     requires room { Reserved slots (length memory.old.kept.now) memory.old.top }
     requires placed { place + length part.query.now ≤ length bytes.now }
     ensures frozen { memory.new.kept.now ≡ memory.old.kept.now }
+    ensures same { memory.new.made.ghost_name ≡ memory.old.made.ghost_name }
     ensures kept { Kept slots.start (all memory.old) (all memory.new) }
     ensures inside { FillInside memory.old.top (all memory.new) (filled memory.new.top result) }
     ensures means { FillsAll bytes.now place part.entry.query.now part.entry.guide.now part.entry.at slots (so_far memory.old.top next) (all memory.old) (all memory.new) (filled memory.new.top result) }

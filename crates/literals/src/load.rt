@@ -23,6 +23,7 @@ pub fn load_literals(
 ) -> Option<usize>
     requires placed { query_at + length query.now ≤ length bytes.now }
     ensures frozen { memory.new.kept.now ≡ memory.old.kept.now }
+    ensures same { memory.new.made.ghost_name ≡ memory.old.made.ghost_name }
     ensures kept { Kept memory.old.top (all memory.old) (all memory.new) }
     ensures inside { BroughtInside memory.old.top (all memory.new) (brought memory.new.top result) }
     ensures means { Brings bytes.now query_at query.now guide.now marks.old marks.new memory.old.top (all memory.new) (brought memory.new.top result) }

@@ -15,6 +15,7 @@ use values::value::{Field, Place, Value};
 #[cycle(load)]
 pub fn load_data(spot: Spot, depth: usize, memory: &mut Memory) -> Option<Loaded>
     ensures frozen { memory.new.kept.now ≡ memory.old.kept.now }
+    ensures same { memory.new.made.ghost_name ≡ memory.old.made.ghost_name }
     ensures kept { Kept memory.old.top (all memory.old) (all memory.new) }
     ensures inside { Inside spot.entry.bytes.now spot.entry.at spot.entry.ty memory.old.top (all memory.new) (laid memory.new.top result) }
     ensures means { Loads spot.entry.bytes.now spot.entry.at spot.entry.ty depth memory.old.top (all memory.new) (laid memory.new.top result) }
@@ -47,6 +48,7 @@ pub(crate) fn load_row(
     memory: &mut Memory,
 ) -> Option<Slots>
     ensures frozen { memory.new.kept.now ≡ memory.old.kept.now }
+    ensures same { memory.new.made.ghost_name ≡ memory.old.made.ghost_name }
     ensures kept { Kept memory.old.top (all memory.old) (all memory.new) }
     ensures inside { RowInside spot.entry.bytes.now spot.entry.at count memory.old.top memory.new.top result }
     ensures means { LoadsRow typing spot.entry.bytes.now spot.entry.at spot.entry.ty count depth memory.old.top (all memory.new) memory.new.top result }
@@ -76,6 +78,7 @@ fn load_bag(spot: Spot, count: usize, depth: usize, memory: &mut Memory) -> Opti
     requires placed { Placed spot.bytes.now spot.at 5 spot.ty 1 }
     requires deep { 0 < depth }
     ensures frozen { memory.new.kept.now ≡ memory.old.kept.now }
+    ensures same { memory.new.made.ghost_name ≡ memory.old.made.ghost_name }
     ensures kept { Kept memory.old.top (all memory.old) (all memory.new) }
     ensures inside { Inside spot.entry.bytes.now spot.entry.at spot.entry.ty memory.old.top (all memory.new) (laid memory.new.top result) }
     ensures means { LoadsPart (parts.Bag count) spot.entry.bytes.now spot.entry.at spot.entry.ty depth memory.old.top (all memory.new) (laid memory.new.top result) }
@@ -107,6 +110,7 @@ fn load_record(spot: Spot, depth: usize, memory: &mut Memory) -> Option<Loaded>
     requires placed { Placed spot.bytes.now spot.at 1 spot.ty 1 }
     requires deep { 0 < depth }
     ensures frozen { memory.new.kept.now ≡ memory.old.kept.now }
+    ensures same { memory.new.made.ghost_name ≡ memory.old.made.ghost_name }
     ensures kept { Kept memory.old.top (all memory.old) (all memory.new) }
     ensures inside { Inside spot.entry.bytes.now spot.entry.at spot.entry.ty memory.old.top (all memory.new) (laid memory.new.top result) }
     ensures means { LoadsPart parts.Record spot.entry.bytes.now spot.entry.at spot.entry.ty depth memory.old.top (all memory.new) (laid memory.new.top result) }
@@ -151,6 +155,7 @@ fn load_side(spot: Spot, side: Side, depth: usize, memory: &mut Memory) -> Optio
     requires placed { Placed spot.bytes.now spot.at 1 spot.ty 1 }
     requires deep { 0 < depth }
     ensures frozen { memory.new.kept.now ≡ memory.old.kept.now }
+    ensures same { memory.new.made.ghost_name ≡ memory.old.made.ghost_name }
     ensures kept { Kept memory.old.top (all memory.old) (all memory.new) }
     ensures inside { Inside spot.entry.bytes.now spot.entry.at spot.entry.ty memory.old.top (all memory.new) (laid memory.new.top result) }
     ensures means { LoadsPart (parts.Either side) spot.entry.bytes.now spot.entry.at spot.entry.ty depth memory.old.top (all memory.new) (laid memory.new.top result) }

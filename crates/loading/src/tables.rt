@@ -12,6 +12,7 @@ use values::lent::Memory;
 // reserved in a row: table n is in the slot of that number. Where they begin, or nothing where there was no room.
 pub fn load_tables(spot: Spot, count: usize, memory: &mut Memory) -> Option<usize>
     ensures frozen { memory.new.kept.now ≡ memory.old.kept.now }
+    ensures same { memory.new.made.ghost_name ≡ memory.old.made.ghost_name }
     ensures begins { Begins memory.old.top result }
     ensures kept { Kept memory.old.top (all memory.old) (all memory.new) }
     ensures inside { RowsInside memory.old.top count (all memory.new) (reached memory.new.top result) }

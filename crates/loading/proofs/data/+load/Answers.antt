@@ -32,7 +32,7 @@ load_row-returns-in_err-start-clause-means t c =
 pub load_row-loop-i-init : goal.load_row-loop-i-init
 load_row-loop-i-init t c =
     let e = c.in_ok-start.ensures in
-    (lined.begin c.args.typing c.args.spot.bytes.now c.args.spot.at c.args.spot.ty c.args.count c.args.depth c.in_ok-start.start _ _ _ e.words (omega (arith, e.begins, e.moved.top)) c.args.spot.datum_inside c.args.spot.type_inside, e.moved.frozen)
+    (lined.begin c.args.typing c.args.spot.bytes.now c.args.spot.at c.args.spot.ty c.args.count c.args.depth c.in_ok-start.start _ _ _ e.words (omega (arith, e.begins, e.moved.top)) c.args.spot.datum_inside c.args.spot.type_inside, e.moved.frozen, e.moved.same)
 
 pub load_row-returns-in_err-l-clause-means : goal.load_row-returns-in_err-l-clause-means
 load_row-returns-in_err-l-clause-means t c =
@@ -46,6 +46,7 @@ load_row-loop-i-preserved t c =
     = elim c.match-typing.branch [ load_row-in-Shared w ↦ rw w.in-Shared.is w.ty-is | load_row-in-Own w ↦ rw w.in-Own.is w.ty-is ] in (
       rw (s.top, ty) (lined.turned c.args.typing c.args.spot.bytes.now c.args.spot.at c.args.spot.ty c.args.count c.args.depth c.in_ok-start.start _ _ _ _ _ _ c.loop-i.invariant.0 c.loop-i-test.true _ _ _ e.kept e.inside e.means c.set_nth.ensures.put),
       s.frozen ∙ e.frozen ∙ c.loop-i.invariant.1,
+      s.same ∙ e.same ∙ c.loop-i.invariant.2,
     )
 
 pub load_row-returns-clause-means : goal.load_row-returns-clause-means
@@ -82,6 +83,7 @@ load_record-loop-i-init t c =
       records.begin c.args.spot.bytes.now c.args.spot.at c.args.spot.ty c.args.depth c.in_ok-start.start c.in_ok-head.head h.tells _ _ _ e.words (omega (arith, e.begins, e.moved.top)) h.inside.0 h.inside.1
           (omega (arith, c.if-bytes-spot.false, c.requires.placed.datum)) (omega (arith, c.reserve.new.self.within, length-append {A = ℕ})),
       e.moved.frozen,
+      e.moved.same,
     )
 
 pub load_record-returns-in_err-count-clause-means : goal.load_record-returns-in_err-count-clause-means
@@ -101,6 +103,7 @@ load_record-loop-i-preserved t c =
     let s = c.set_nth.ensures.steady in (
       rw s.top (records.turned c.args.spot.bytes.now c.args.spot.at c.args.spot.ty c.args.depth c.in_ok-start.start _ _ _ _ _ _ _ _ c.loop-i.invariant.0 c.loop-i-test.true c.in_ok-count.count n.tells n.inside _ _ _ e.kept e.inside e.means c.set_nth.ensures.put),
       s.frozen ∙ e.frozen ∙ c.loop-i.invariant.1,
+      s.same ∙ e.same ∙ c.loop-i.invariant.2,
     )
 
 pub load_record-returns-clause-means : goal.load_record-returns-clause-means
