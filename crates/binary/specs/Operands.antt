@@ -34,6 +34,11 @@ pub record Operands (o : Binary) (bs : List ℕ) (deep : ℕ) (a b : Value) (m :
   pub low : Under used top
   pub room : top ≤ length m
 
+-- so for words in use below some place
+pub record OperandsBelow (o : Binary) (bs : List ℕ) (deep : ℕ) (a b : Value) (m : List ℕ) : Type 0 where
+  pub top : ℕ
+  pub given : Operands o bs deep a b m top
+
 pub record Does (o : Binary) (bs : List ℕ) (deep : ℕ) (a b : Value) (m : List ℕ) (top left : ℕ) (n : List ℕ) (r : Result Came Stop) : Type 0 where
   pub kept : Kept top m n
   pub means : (g : Operands o bs deep a b m top) → Means bs g.rate (adding 1 (apply2 (op_2 o) g.first g.second)) (1 + left) g.used top n r

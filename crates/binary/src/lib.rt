@@ -35,6 +35,7 @@ pub fn pair_of(
 ) -> Result<Came, Stop>
     requires { TwoReady bytes.now spot deep op a b (all memory.old) memory.old.top }
     ensures frozen { memory.new.kept.now ≡ memory.old.kept.now }
+    ensures same { memory.new.made.ghost_name ≡ memory.old.made.ghost_name }
     ensures comes { Twos bytes.now spot deep op a b (all memory.old) memory.old.top left (all memory.new) (came_to memory.new.top result) }
 {
     match op {

@@ -23,6 +23,7 @@ pub fn join_two(
 ) -> Result<Came, Stop>
     requires { Operands Binary.JoinRecords bytes.now deep a b (all memory.old) memory.old.top }
     ensures frozen { memory.new.kept.now ≡ memory.old.kept.now }
+    ensures same { memory.new.made.ghost_name ≡ memory.old.made.ghost_name }
     ensures does { Does Binary.JoinRecords bytes.now deep a b (all memory.old) memory.old.top left (all memory.new) (came_to memory.new.top result) }
 {
     let x = record(a)?;

@@ -21,16 +21,17 @@ pub fn operate(
 ) -> Result<Came, Stop>
     requires { Operands op bytes.now deep a b (all memory.old) memory.old.top }
     ensures frozen { memory.new.kept.now ≡ memory.old.kept.now }
+    ensures same { memory.new.made.ghost_name ≡ memory.old.made.ghost_name }
     ensures does { Does op bytes.now deep a b (all memory.old) memory.old.top left (all memory.new) (came_to memory.new.top result) }
 {
     match op {
-        Binary::Equal => plain::equal(bytes, a, b, deep, memory, left),
+        Binary::Equal => plain::equal(bytes, a, b, deep, &memory.row(), left),
         Binary::And => plain::both_true(a, b, left),
         Binary::Or => plain::one_true(a, b, left),
         Binary::Plus => plain::plus(a, b, left),
         Binary::Less => plain::less(a, b, left),
         Binary::JoinBags => of_bags::join_two(a, b, memory, left),
         Binary::JoinRecords => of_records::join_two(bytes, a, b, deep, memory, left),
-        Binary::Within => of_bags::within(bytes, a, b, deep, memory, left),
+        Binary::Within => of_bags::within(bytes, a, b, deep, &memory.row(), left),
     }
 }

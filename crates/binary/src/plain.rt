@@ -1,6 +1,6 @@
 // Operators that make no memory: sameness, truths and numbers.
 ghost use Rattle.std.specs.Prelude.{ℕ};
-ghost use Rattle.values.specs.Lent.{all};
+ghost use Rattle.values.specs.Lent.{words};
 ghost use Rattle.operators.specs.Came.{came_to};
 ghost use Rattle.binary.specs.Operands.{Does, DoesAnywhere};
 
@@ -8,7 +8,7 @@ use compare::same;
 use format::node::Binary;
 use operators::came::{Came, Stop};
 use operators::kinds::{number, truth};
-use values::lent::Memory;
+use values::row::Row;
 use values::value::Value;
 
 // Whether two data are the same. They nest no deeper than `deep`.
@@ -17,13 +17,13 @@ pub fn equal(
     a: Value,
     b: Value,
     deep: usize,
-    memory: &Memory,
+    row: &Row,
     left: u64,
 ) -> Result<Came, Stop>
-    ensures { Does Binary.Equal bytes.now deep a b (all memory.now) memory.now.top left (all memory.now) (came_to memory.now.top result) }
+    ensures { (top : ℕ) → Does Binary.Equal bytes.now deep a b (words row.now) top left (words row.now) (came_to top result) }
 {
     Ok(Came {
-        value: Value::Truth(same(bytes, &memory.row(), a, b, deep)),
+        value: Value::Truth(same(bytes, row, a, b, deep)),
         left,
     })
 }

@@ -31,6 +31,7 @@ fn unary_of(
 ) -> Result<Came, Stop>
     requires { OneReady bytes.now spot deep (Single.Op op) v (all memory.old) memory.old.top }
     ensures frozen { memory.new.kept.now ≡ memory.old.kept.now }
+    ensures same { memory.new.made.ghost_name ≡ memory.old.made.ghost_name }
     ensures ones { Ones bytes.now spot deep (Single.Op op) v (all memory.old) memory.old.top left (all memory.new) (came_to memory.new.top result) }
 {
     let named = |count| Place {
@@ -63,6 +64,7 @@ pub fn single_of(
 ) -> Result<Came, Stop>
     requires { OneReady bytes.now spot deep op v (all memory.old) memory.old.top }
     ensures frozen { memory.new.kept.now ≡ memory.old.kept.now }
+    ensures same { memory.new.made.ghost_name ≡ memory.old.made.ghost_name }
     ensures ones { Ones bytes.now spot deep op v (all memory.old) memory.old.top left (all memory.new) (came_to memory.new.top result) }
 {
     match op {

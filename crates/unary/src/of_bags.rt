@@ -25,6 +25,7 @@ fn pay_all(left: u64, due: u128) -> Result<u64, Stop>
 
 pub fn in_a_bag(v: Value, memory: &mut Memory, left: u64) -> Result<Came, Stop>
     ensures frozen { memory.new.kept.now ≡ memory.old.kept.now }
+    ensures same { memory.new.made.ghost_name ≡ memory.old.made.ghost_name }
     ensures turns { Turns (apply1 in_bag) v (all memory.old) memory.old.top left (all memory.new) (came_to memory.new.top result) }
 {
     let value = in_bag(memory, v).ok_or(Stop::NoRoom)?;
@@ -35,6 +36,7 @@ pub fn in_a_bag(v: Value, memory: &mut Memory, left: u64) -> Result<Came, Stop>
 pub fn flattened(v: Value, memory: &mut Memory, left: u64) -> Result<Came, Stop>
     requires { Lies v (all memory.old) memory.old.top }
     ensures frozen { memory.new.kept.now ≡ memory.old.kept.now }
+    ensures same { memory.new.made.ghost_name ≡ memory.old.made.ghost_name }
     ensures turns { Turns (apply1 flat) v (all memory.old) memory.old.top left (all memory.new) (came_to memory.new.top result) }
 {
     let place = bag(v)?;
@@ -86,6 +88,7 @@ pub fn once(
 ) -> Result<Came, Stop>
     requires { Lies v (all memory.old) memory.old.top }
     ensures frozen { memory.new.kept.now ≡ memory.old.kept.now }
+    ensures same { memory.new.made.ghost_name ≡ memory.old.made.ghost_name }
     ensures turns { TurnsOnce bytes.now deep v (all memory.old) memory.old.top left (all memory.new) (came_to memory.new.top result) }
 {
     let place = bag(v)?;

@@ -26,6 +26,7 @@ pub fn dotted(name: Place, bytes: &[u8], v: Value, memory: &Memory, left: u64) -
 // A record of one field.
 pub fn fielded(name: Place, v: Value, memory: &mut Memory, left: u64) -> Result<Came, Stop>
     ensures frozen { memory.new.kept.now ≡ memory.old.kept.now }
+    ensures same { memory.new.made.ghost_name ≡ memory.old.made.ghost_name }
     ensures turns { (bs : List ℕ) → TurnsByName as_field bs name v (all memory.old) memory.old.top left (all memory.new) (came_to memory.new.top result) }
 {
     let value = as_field(memory, name, v).ok_or(Stop::NoRoom)?;
@@ -42,6 +43,7 @@ pub fn left_out(
 ) -> Result<Came, Stop>
     requires { Lies v (all memory.old) memory.old.top }
     ensures frozen { memory.new.kept.now ≡ memory.old.kept.now }
+    ensures same { memory.new.made.ghost_name ≡ memory.old.made.ghost_name }
     ensures turns { TurnsByName without bytes.now name v (all memory.old) memory.old.top left (all memory.new) (came_to memory.new.top result) }
 {
     let place = record(v)?;
@@ -60,6 +62,7 @@ pub fn projected(
     requires names { names.start ≤ length bytes.now }
     requires lies { Lies v (all memory.old) memory.old.top }
     ensures frozen { memory.new.kept.now ≡ memory.old.kept.now }
+    ensures same { memory.new.made.ghost_name ≡ memory.old.made.ghost_name }
     ensures turns { TurnsByNames bytes.now names.start names.count v (all memory.old) memory.old.top left (all memory.new) (came_to memory.new.top result) }
 {
     let place = record(v)?;

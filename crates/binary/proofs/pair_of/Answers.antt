@@ -21,10 +21,10 @@ pub pair_up-requires-in-Matched : goal.pair_up-requires-in-Matched
 pair_up-requires-in-Matched c = match_values (rw c.in-Matched.is at c.requires)
 
 pub returns-in-Op : goal.returns-in-Op
-returns-in-Op c = record { frozen = c.operate.ensures.frozen; comes = rw c.in-Op.is (operated c.operate.ensures.does) }
+returns-in-Op c = record { frozen = c.operate.ensures.frozen; same = c.operate.ensures.same; comes = rw c.in-Op.is (operated c.operate.ensures.does) }
 
 pub returns-in-Product : goal.returns-in-Product
-returns-in-Product c = record { frozen = c.pair_up.ensures.frozen; comes = rw c.in-Product.is (product_done c.pair_up.ensures.pairs) }
+returns-in-Product c = record { frozen = c.pair_up.ensures.frozen; same = c.pair_up.ensures.same; comes = rw c.in-Product.is (product_done c.pair_up.ensures.pairs) }
 
 pub returns-in-Matched : goal.returns-in-Matched
-returns-in-Matched c = record { frozen = c.pair_up-in-Matched.ensures.frozen; comes = rw c.in-Matched.is (match_done c.pair_up-in-Matched.ensures.pairs) }
+returns-in-Matched c = record { frozen = c.pair_up-in-Matched.ensures.frozen; same = c.pair_up-in-Matched.ensures.same; comes = rw c.in-Matched.is (match_done c.pair_up-in-Matched.ensures.pairs) }
