@@ -1,5 +1,5 @@
 // Looking a type up in the table, and putting it in where it is not there yet.
-ghost use Rattle.std.specs.Prelude.{◌≡◌, ℕ, ◌+◌, ◌-◌, ◌<◌, ◌≤◌, length, take, drop, vec_len, slice_index_or};
+ghost use Rattle.std.specs.Prelude.{◌≡◌, ℕ, ◌+◌, ◌-◌, ◌<◌, ◌≤◌, length, take, drop, vec_len, vec_capacity, slice_index_or};
 ghost use Rattle.types.specs.Shapes.{shape, held, Below, Rising, s_rec};
 ghost use Rattle.types.specs.Tables.{Sound, Found, Lies, Tells, Made, no_such};
 ghost use Rattle.types.specs.Outcomes.{Kept};
@@ -31,33 +31,96 @@ fn same_entry(fields: &[Field], x: Entry, y: Entry) -> bool
     }
 }
 
+pub fn entry_at(entries: &[Entry], i: usize) -> Entry
+    requires { i < length entries.now }
+    ensures { result ≡ slice_index_or entries.now i Entry.Unit }
+{
+    entries[i]
+}
+
+pub fn field_at(fields: &[Field], i: usize) -> Field
+    requires { i < length fields.now }
+    ensures { result ≡ slice_index_or fields.now i no_such }
+{
+    fields[i]
+}
+
+// Where a shape stands among entries.
+fn find(entries: &[Entry], fields: &[Field], e: Entry) -> Option<usize>
+    requires lies { (i : ℕ) → i < length entries.now → Lies (length fields.now) (slice_index_or entries.now i Entry.Unit) }
+    requires here { Lies (length fields.now) e }
+    ensures { Found fields.now entries.now e result }
+{
+    for (i, x) in entries.iter().enumerate() {
+        if same_entry(fields, *x, e) {
+            return Some(i);
+        }
+    }
+    None
+}
+
+// The number of a type that is no record.
+pub fn plain(names: usize, entries: &mut Vec<Entry>, fields: &[Field], e: Entry) -> u32
+    requires sound { Sound names entries.old.items fields.now }
+    requires plain { Lies 0 e }
+    requires parts { Below names (length entries.old.items) (shape fields.now e) }
+    requires room { vec_len entries.old < 16400 }
+    requires cap { 16400 ≤ vec_capacity entries.old }
+    ensures kept { vec_capacity entries.new ≡ vec_capacity entries.old }
+    ensures made { Made names entries.old.items fields.now entries.new.items fields.now (shape fields.now e) 0 result }
+{
+    match find(entries, fields, e) {
+        Some(i) => i as u32,
+        None => {
+            let r = entries.len() as u32;
+            entries.push_reserved(e);
+            r
+        }
+    }
+}
+
+// The number of the record whose fields stand last. Where there is such a record already, they are cut off again.
+pub fn seal(names: usize, entries: &mut Vec<Entry>, fields: &mut Vec<Field>, start: usize) -> u32
+    requires start { start ≤ length fields.old.items }
+    requires sound { Sound names entries.old.items (take start fields.old.items) }
+    requires parts { Rising names (length entries.old.items) 0 (drop start fields.old.items) }
+    requires room { vec_len entries.old < 16400 }
+    requires cap { 16400 ≤ vec_capacity entries.old }
+    requires wide { vec_len fields.old ≤ 16793600 }
+    ensures kept { (vec_capacity entries.new ≡ vec_capacity entries.old) × (vec_capacity fields.new ≡ vec_capacity fields.old) }
+    ensures made { Made names entries.old.items (take start fields.old.items) entries.new.items fields.new.items (s_rec (drop start fields.old.items)) (length fields.old.items - start) result }
+{
+    let count = fields.len() - start;
+    let e = Entry::Record(Run {
+        start: start as u32,
+        count: count as u32,
+    });
+    match find(entries, fields, e) {
+        Some(i) => {
+            fields.truncate(start);
+            i as u32
+        }
+        None => {
+            let r = entries.len() as u32;
+            entries.push_reserved(e);
+            r
+        }
+    }
+}
+
 impl Table {
     pub fn entry_at(&self, i: usize) -> Entry
         requires { i < length self.now.entries.items }
         ensures { result ≡ slice_index_or self.now.entries.items i Entry.Unit }
     {
-        self.entries[i]
+        entry_at(&self.entries, i)
     }
 
     pub fn field_at(&self, i: usize) -> Field
         requires { i < length self.now.fields.items }
         ensures { result ≡ slice_index_or self.now.fields.items i no_such }
     {
-        self.fields[i]
-    }
-
-    // Where a shape stands in the table.
-    fn find(&self, e: Entry) -> Option<usize>
-        requires lies { (i : ℕ) → i < length self.now.entries.items → Lies (length self.now.fields.items) (slice_index_or self.now.entries.items i Entry.Unit) }
-        requires here { Lies (length self.now.fields.items) e }
-        ensures { Found self.now.fields.items self.now.entries.items e result }
-    {
-        for (i, x) in self.entries.iter().enumerate() {
-            if same_entry(&self.fields, *x, e) {
-                return Some(i);
-            }
-        }
-        None
+        field_at(&self.fields, i)
     }
 
     // The number of a type that is no record.
@@ -68,14 +131,7 @@ impl Table {
         ensures kept { Kept self.old self.new }
         ensures made { Made self.old.names self.old.entries.items self.old.fields.items self.new.entries.items self.new.fields.items (shape self.old.fields.items e) 0 result }
     {
-        match self.find(e) {
-            Some(i) => i as u32,
-            None => {
-                let r = self.entries.len() as u32;
-                self.entries.push_reserved(e);
-                r
-            }
-        }
+        plain(self.names, &mut self.entries, &self.fields, e)
     }
 
     // The number of the record whose fields stand last. Where there is such a record already, they are cut off again.
@@ -88,21 +144,6 @@ impl Table {
         ensures kept { Kept self.old self.new }
         ensures made { Made self.old.names self.old.entries.items (take start self.old.fields.items) self.new.entries.items self.new.fields.items (s_rec (drop start self.old.fields.items)) (length self.old.fields.items - start) result }
     {
-        let count = self.fields.len() - start;
-        let e = Entry::Record(Run {
-            start: start as u32,
-            count: count as u32,
-        });
-        match self.find(e) {
-            Some(i) => {
-                self.fields.truncate(start);
-                i as u32
-            }
-            None => {
-                let r = self.entries.len() as u32;
-                self.entries.push_reserved(e);
-                r
-            }
-        }
+        seal(self.names, &mut self.entries, &mut self.fields, start)
     }
 }

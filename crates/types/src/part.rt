@@ -1,5 +1,5 @@
 // The parts of the types in a table, by their numbers; and making a type of such parts.
-ghost use Rattle.std.specs.Prelude.{◌≡◌, ◌-◌, ◌<◌, List, [], ◌∷◌, slice_index_or};
+ghost use Rattle.std.specs.Prelude.{◌≡◌, ◌-◌, ◌<◌, List, [], ◌∷◌, length, slice_index_or};
 ghost use Rattle.query.specs.Data.{Name};
 ghost use Rattle.query.specs.Query.{a_truth};
 ghost use Rattle.query.specs.Types.{elem, same_ty, as_num};
@@ -8,6 +8,7 @@ ghost use Rattle.types.specs.Tables.{bag_part, run_part, sides_part, Lies};
 ghost use Rattle.types.specs.Outcomes.{look, size, Spare, Grew, Says};
 
 use crate::entry::{Entry, Run, Two};
+use crate::intern::entry_at;
 use crate::table::{MOST_FIELDS, MOST_TYPES, Table};
 
 impl Entry {
@@ -39,6 +40,22 @@ impl Entry {
     }
 }
 
+// The fields of a record.
+pub fn run_of(entries: &[Entry], x: u32) -> Option<Run>
+    requires within { x < length entries.now }
+    ensures { result ≡ run_part (slice_index_or entries.now x Entry.Unit) }
+{
+    entry_at(entries, x as usize).as_record()
+}
+
+// The two sides of an either.
+pub fn sides_of(entries: &[Entry], x: u32) -> Option<Two>
+    requires within { x < length entries.now }
+    ensures { result ≡ sides_part (slice_index_or entries.now x Entry.Unit) }
+{
+    entry_at(entries, x as usize).as_either()
+}
+
 impl Table {
     // The type of what is in a bag.
     pub fn elem_of(&self, x: u32) -> Option<u32>
@@ -54,7 +71,7 @@ impl Table {
         requires within { x < size self.now }
         ensures { result ≡ run_part (slice_index_or self.now.entries.items x Entry.Unit) }
     {
-        self.entry_at(x as usize).as_record()
+        run_of(&self.entries, x)
     }
 
     // The two sides of an either.
@@ -62,7 +79,7 @@ impl Table {
         requires within { x < size self.now }
         ensures { result ≡ sides_part (slice_index_or self.now.entries.items x Entry.Unit) }
     {
-        self.entry_at(x as usize).as_either()
+        sides_of(&self.entries, x)
     }
 
     // Whether a type is that of truths.
