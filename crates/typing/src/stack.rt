@@ -26,7 +26,15 @@ impl Stack {
         ensures { IfOk result (λ s. s ≡ []) }
     {
         let memory = Vec::from_elem(heap, 0, MOST)?;
-        Ok(Stack { memory, top: MOST })
+        Ok(Stack::over(memory))
+    }
+
+    // The empty stack in a memory of that one size, whatever the memory holds.
+    pub fn over(memory: Vec<u32>) -> Stack
+        requires { length memory.items ≡ 8200 }
+        ensures { result ≡ [] }
+    {
+        Stack { memory, top: MOST }
     }
 
     pub(crate) fn clear(&mut self)
