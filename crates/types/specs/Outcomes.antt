@@ -4,10 +4,19 @@ use Rattle.query.specs.Data.{Name}
 use Rattle.query.specs.Query.{Ty}
 use Rattle.types.specs.Shapes.{Shape, shapes, type_at, Ranked, Grown}
 use Rattle.types.specs.Tables.{Sound}
+use Rattle.types.specs.declared.table.Rows.{Rows}
 use Rattle.types.specs.declared.table.Table.{Table}
 
 abbrev pub look : Table → List Shape
 look t = shapes (vec_items t.fields) (vec_items t.entries)
+
+-- what stands in rows, as a table of them has it
+abbrev pub look_in : Rows → List Shape
+look_in t = shapes (vec_items t.fields) (vec_items t.entries)
+
+-- rows are in order: a table of them would be
+abbrev pub InOrder : Rows → Type 0
+InOrder t = Sound t.names (vec_items t.entries) (vec_items t.fields)
 
 -- how many types there are, and how many fields of records
 abbrev pub size : Table → ℕ

@@ -10,6 +10,15 @@ pub const MOST_TYPES: usize = 16400;
 
 pub const MOST_FIELDS: usize = 16793600;
 
+// What a table is made of, where nothing is known of it: so memory keeps it from one query to the next.
+#[derive(Drop)]
+pub struct Rows {
+    // how many names there are: a field's name is a number below
+    pub names: usize,
+    pub entries: Vec<Entry>,
+    pub fields: Vec<Field>,
+}
+
 #[derive(Drop)]
 pub struct Table {
     // how many names there are: a field's name is a number below

@@ -5,8 +5,8 @@ use Rattle.types.specs.declared.entry.Entry.TheVariants.{Unit as Unit'}
 use Rattle.typed.proofs.Asking.{begun_sound}
 use Rattle.typed.proofs.whole.begin.Goals as goal
 
-pub invariant_of-table-clause-sound : goal.invariant_of-table-clause-sound
-invariant_of-table-clause-sound c = begun_sound _ _ _ (c.push_reserved.ensures.items ∙ ap (λ (z : List Entry). z ++ (Unit' ∷ [])) c.truncate.ensures.items) c.truncate-2.ensures.items
+pub invariant_of-result-clause-sound : goal.invariant_of-result-clause-sound
+invariant_of-result-clause-sound c = begun_sound _ _ _ (c.push_reserved.ensures.items ∙ ap (λ (z : List Entry). z ++ (Unit' ∷ [])) c.truncate.ensures.items) c.truncate-2.ensures.items
 
 pub returns : goal.returns
 returns c =
