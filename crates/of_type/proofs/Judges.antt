@@ -83,9 +83,9 @@ either_fits_ty t u v e f = subst FitsTy e f
 verdict : (rest rest' : List ℕ) (b c : Bool) (r : Option Both) → c ≡ b → Verdict rest rest' b r → Verdict rest rest' c r
 verdict rest rest' b c r e v = subst (λ (w : Bool). Verdict rest rest' w r) (sym e) v
 
-no_longer : (b c : Both) (r : Option Both) → length c.datum.now ≤ length b.datum.now → NoLonger c r → NoLonger b r
+no_longer : (b c : Both) (r : Option Both) → NoLonger b (Some c) → NoLonger c r → NoLonger b r
 no_longer b c None h n = tt
-no_longer b c (Some e) h n = omega (arith, n)
+no_longer b c (Some e) h n = (omega (arith, h.0, n.0), omega (arith, h.1, n.1))
 
 -- no parts left to look at
 pub no_limit : (limit : ℕ) (b : Both) → limit ≡ 0 → DatumIs limit b None
@@ -131,7 +131,7 @@ module _ (limit : ℕ) (b : Both) (h : Heads) (m : HeadsMet b (Some h)) where
   pub as_left : (i : Both) (r : Option Both) → h.node ≡ dn.Left → DatumIs (limit - 1) h.after (Some i) → TypePast i r → DatumIs limit b r
   as_left i r e j l =
       record {
-        within = no_longer b i r (omega (arith, m.within, j.within)) l.within;
+        within = no_longer b i r (no_longer b h.after (Some i) m.within j.within) l.within;
         tells = λ d t rest rest' f g p q s.
             let o = meeting dn.Left e d t rest rest' f g p q in
             let c = either_fits_ty t o.u o.v o.is_ty g in
@@ -147,7 +147,7 @@ module _ (limit : ℕ) (b : Both) (h : Heads) (m : HeadsMet b (Some h)) where
     pub as_right : (i : Both) (r : Option Both) → TypePast h.after (Some i) → DatumIs (limit - 1) i r → DatumIs limit b r
     as_right i r l j =
         record {
-          within = no_longer b i r (omega (arith, m.within, l.within)) j.within;
+          within = no_longer b i r (no_longer b h.after (Some i) m.within l.within) j.within;
           tells = λ d t rest rest' f g p q s.
               let o = meeting dn.Right e d t rest rest' f g p q in
               let c = either_fits_ty t o.u o.v o.is_ty g in

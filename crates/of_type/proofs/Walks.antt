@@ -14,14 +14,14 @@ use Rattle.format.specs.Trees.{tree_way}
 use Rattle.format.proofs.Spans.{one_read, one_stuck}
 use Rattle.format.specs.TypeLaws.{ty_laws}
 use Rattle.of_type.specs.declared.Both.{Both}
-use Rattle.of_type.specs.Places.{datas, TypePast, DatumIs, BagIs, ValuesAre}
-use Rattle.of_type.proofs.Fronts.{front}
+use Rattle.of_type.specs.Places.{datas, NoLonger, TypePast, DatumIs, BagIs, ValuesAre}
+use Rattle.of_type.proofs.Fronts.{front, shorter}
 
 -- a type passed over
 pub past_read : (b : Both) (e : ℕ) (after : Both) → Read (many types 1) b.ty.now e → after.datum.now ≡ b.datum.now → after.ty.now ≡ from e b.ty.now → TypePast b (Some after)
 past_read b e after r g h =
     let o = one_read types b.ty.now e r in
-    record { within = omega (arith, ap length g); tells = λ t rest f q. (g, h ∙ (front types (tree_way types ty_heads ty_arity ty_laws) b.ty.now e o.thing t rest o.begins f q).1) }
+    record { within = (omega (arith, ap length g), omega (arith, ap length h, shorter e b.ty.now)); tells = λ t rest f q. (g, h ∙ (front types (tree_way types ty_heads ty_arity ty_laws) b.ty.now e o.thing t rest o.begins f q).1) }
 
 pub past_none : (b : Both) (p : ℕ) → Stuck (many types 1) b.ty.now p → TypePast b None
 past_none b p s = record { within = tt; tells = λ t rest f q. (one_stuck types b.ty.now p s).absent t rest f q }
@@ -36,7 +36,7 @@ pub record BagLeft (k i : ℕ) (after : Both) (ds : Datas) (u : Ty) (rest rest' 
   pub ended : 0 < i → after.ty.now ≡ rest'
 
 pub record BagSoFar (limit k : ℕ) (b : Both) (i : ℕ) (after : Both) : Type 0 where
-  pub within : length after.datum.now ≤ length b.datum.now
+  pub within : NoLonger b (Some after)
   pub tells : (ds : Datas) (u : Ty) (rest rest' : List ℕ) → (datas k).Fits ds → FitsTy u → b.datum.now ≡ write_datas ds ++ rest → b.ty.now ≡ write_ty u ++ rest' → size_t u ≤ limit → BagLeft k i after ds u rest rest'
 
 none_left : (i k : ℕ) → i < k → i + how_many none ≡ k → ⊥
@@ -72,7 +72,7 @@ module _ (limit k : ℕ) (b : Both) (i : ℕ) (after : Both) (w : BagSoFar limit
   unfolding write_datas
   bag_more e h j =
       record {
-        within = omega (arith, w.within, j.within);
+        within = (omega (arith, w.within.0, j.within.0), j.within.1);
         tells = λ ds u rest rest' f fu p q s. let l = w.tells ds u rest rest' f fu p q s in go ds u rest rest' fu q s l.left l.many l.fits l.place l.same;
       }
     where
@@ -130,7 +130,7 @@ pub record ValuesLeft (limit k i : ℕ) (after : Both) (ds : List Data) (ts : Li
   pub same : tables_are ds ts ≡ tables_are left left_ty
 
 pub record ValuesSoFar (limit k : ℕ) (b : Both) (i : ℕ) (after : Both) : Type 0 where
-  pub within : length after.datum.now ≤ length b.datum.now
+  pub within : NoLonger b (Some after)
   pub tells : (ds : List Data) (ts : List Ty) (rest rest' : List ℕ) → (many data_of k).Fits ds → (many types k).Fits ts → b.datum.now ≡ writes data_of ds ++ rest → b.ty.now ≡ writes types ts ++ rest' → size_s ts ≤ limit → ValuesLeft limit k i after ds ts rest rest'
 
 small_first : (limit : ℕ) (t : Ty) (ts : List Ty) → size_s (t ∷ ts) ≤ limit → (size_t t ≤ limit) × (size_s ts ≤ limit)
@@ -153,7 +153,7 @@ module _ (limit k : ℕ) (b : Both) (i : ℕ) (after : Both) (w : ValuesSoFar li
   pub values_more : (e : Both) → i < k → DatumIs limit after (Some e) → ValuesSoFar limit k b (i + 1) e
   values_more e h j =
       record {
-        within = omega (arith, w.within, j.within);
+        within = (omega (arith, w.within.0, j.within.0), omega (arith, w.within.1, j.within.1));
         tells = λ ds ts rest rest' f ft p q s. let l = w.tells ds ts rest rest' f ft p q s in go ds ts rest rest' l.left l.left_ty l.many l.many_ty l.fits l.fits_ty l.place l.place_ty l.small l.same;
       }
     where

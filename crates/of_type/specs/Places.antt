@@ -15,10 +15,10 @@ use Rattle.of_type.specs.declared.Heads.{Heads}
 abbrev pub datas : ℕ → Coding
 datas k = record { T = Datas; write = write_datas; Fits = λ ds. (how_many ds ≡ k) × FitsDatas ds }
 
--- no datum's byte comes anew
+-- no byte comes anew, of data or of types
 abbrev pub NoLonger : Both → Option Both → Type 0
 NoLonger b None = Unit {0}
-NoLonger b (Some e) = length e.datum.now ≤ length b.datum.now
+NoLonger b (Some e) = (length e.datum.now ≤ length b.datum.now) × (length e.ty.now ≤ length b.ty.now)
 
 -- it holds, and this is what comes after; or it does not hold
 abbrev pub Verdict : List ℕ → List ℕ → Bool → Option Both → Type 0

@@ -73,7 +73,7 @@ returns c =
     let tn = taken _ _ _ _ c.in_ok-t.ensures.value c.type_node.ensures in
     let same = sym c.from.ensures ∙ differs_false the_type (search rules) _ _ (sym c.ne.ensures ∙ c.if-ne.false) ∙ c.from-2.ensures in
     record {
-      within = shorter c.in_ok-d.d.length xs;
+      within = (shorter c.in_ok-d.d.length xs, shorter c.in_ok-t.t.length ys);
       tells = λ d t rest rest' f g p q.
           elim c.match-d.branch [
             | in-Record+else-ne-2 w ↦ names_meet xs ys c.in_ok-d.d.head _ _ c.in_ok-t.t.head _ _ dn tn d t rest rest' f g p q w.in-Record.field-0 w.in-Record.is same (alike _ _ _ w.ne-in-Record.ensures w.if-ne-2.false)
