@@ -1,5 +1,5 @@
 // A request is put to the desk, and its answer turned into a line.
-ghost use Rattle.std.specs.Prelude.{OnOk};
+ghost use Rattle.std.specs.Prelude.{length, OnOk};
 ghost use Rattle.asking_serving.specs.Shown.{Shows, Served};
 
 use asking_desk::answer::Answer;
@@ -26,6 +26,20 @@ pub fn show_answer(
     }
 }
 
+// Appends the line of the desk's answer to a request, with those numbers lent.
+pub(crate) fn tell(
+    heap: Global,
+    desk: &mut Desk,
+    bytes: &[u8],
+    lent: &mut [u64],
+    work: bool,
+    out: &mut Vec<u8>,
+) -> Result<(), AllocError>
+    ensures { OnOk result (Served bytes.now (length lent.old) work out.old.items out.new.items) }
+{
+    show_answer(heap, answer(desk, bytes, lent), work, out)
+}
+
 // Answers a request, with so many numbers lent.
 pub fn answer_one(
     heap: Global,
@@ -40,5 +54,5 @@ pub fn answer_one(
 {
     make_large(memory, numbers)?;
     let lent = &mut memory.as_mut_slice()[0..numbers];
-    show_answer(heap, answer(desk, bytes, lent), work, out)
+    tell(heap, desk, bytes, lent, work, out)
 }

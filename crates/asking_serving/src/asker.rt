@@ -1,8 +1,7 @@
 // The desk that asks, as it is served.
 ghost use Rattle.asking_serving.specs.Shown.{Served};
 
-use crate::answers::show_answer;
-use asking_desk::ask::answer;
+use crate::answers::{answer_one, tell};
 use asking_desk::memory::{Desk, make_desk};
 use serving::teller::Teller;
 use std::alloc::{AllocError, Global};
@@ -28,6 +27,18 @@ impl Teller for Asking {
         work: bool,
         out: &mut Vec<u8>,
     ) -> Result<(), AllocError> {
-        show_answer(heap, answer(&mut self.desk, bytes, lent), work, out)
+        tell(heap, &mut self.desk, bytes, lent, work, out)
+    }
+
+    fn answer_one(
+        &mut self,
+        heap: Global,
+        bytes: &[u8],
+        numbers: usize,
+        memory: &mut Vec<u64>,
+        work: bool,
+        out: &mut Vec<u8>,
+    ) -> Result<(), AllocError> {
+        answer_one(heap, &mut self.desk, bytes, numbers, memory, work, out)
     }
 }
