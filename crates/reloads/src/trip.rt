@@ -1,4 +1,7 @@
 // One request's tables, there and back.
+ghost use Rattle.std.specs.Prelude.{ℕ, ◌≤◌, length};
+ghost use Rattle.loading.specs.Loads.{laid, Loads};
+
 use checks::{LIMIT, of_schema, within_limit};
 use format::node::{Ask, Request};
 use format::requests::read_request;
@@ -28,7 +31,9 @@ fn are_bytes(numbers: &[u64], bytes: &[u8]) -> bool {
 }
 
 // Loads the table at a place, of the type at another, into all of the memory.
-fn load(bytes: &[u8], at: usize, ty: usize, mem: &mut [u64]) -> Option<Loaded> {
+fn load(bytes: &[u8], at: usize, ty: usize, mem: &mut [u64]) -> Option<Loaded>
+    ensures means { at ≤ length bytes.now → ty ≤ length bytes.now → (top : ℕ) × Loads bytes.now at ty 8192 0 mem.new (laid top result) }
+{
     if at > bytes.len() || ty > bytes.len() {
         return None;
     }
