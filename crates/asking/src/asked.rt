@@ -63,6 +63,7 @@ fn load_all(
     requires query { drop ask.query_at bytes.now ≡ query.now }
     requires marks { 73728 ≤ length marks.old }
     ensures frozen { memory.new.kept.now ≡ memory.old.kept.now }
+    ensures same { memory.new.made.ghost_name ≡ memory.old.made.ghost_name }
     ensures long { length (all memory.new) ≡ length (all memory.old) }
     ensures means { memory.old.top ≡ 0 → LoadsUp bytes.now guide.now ask marks.new (all memory.new) (brought memory.new.top result) }
 {

@@ -52,6 +52,7 @@ pub fn work_out(
 ) -> Result<Came, Stop>
     requires { Ready (set lent.now) query.now at env it (all memory.old) memory.old.top }
     ensures frozen { memory.new.kept.now ≡ memory.old.kept.now }
+    ensures same { memory.new.made.ghost_name ≡ memory.old.made.ghost_name }
     ensures kept { Kept memory.old.top (all memory.old) (all memory.new) }
     ensures means { Answers (set lent.now) query.now at env it (all memory.old) memory.old.top left (all memory.new) (came_to memory.new.top result) }
 {
@@ -189,6 +190,7 @@ fn each_of(
 ) -> Result<Came, Stop>
     requires { EachReady (set lent.now) query.now at env place (all memory.old) memory.old.top }
     ensures frozen { memory.new.kept.now ≡ memory.old.kept.now }
+    ensures same { memory.new.made.ghost_name ≡ memory.old.made.ghost_name }
     ensures kept { Kept memory.old.top (all memory.old) (all memory.new) }
     ensures means { EachAnswers (set lent.now) query.now at env place (all memory.old) memory.old.top budget (all memory.new) (came_to memory.new.top result) }
 {
@@ -227,6 +229,7 @@ fn keep_of(
 ) -> Result<Came, Stop>
     requires { EachReady (set lent.now) query.now at env place (all memory.old) memory.old.top }
     ensures frozen { memory.new.kept.now ≡ memory.old.kept.now }
+    ensures same { memory.new.made.ghost_name ≡ memory.old.made.ghost_name }
     ensures kept { Kept memory.old.top (all memory.old) (all memory.new) }
     ensures means { KeepAnswers (set lent.now) query.now at env place (all memory.old) memory.old.top budget (all memory.new) (came_to memory.new.top result) }
 {
