@@ -42,7 +42,7 @@ impl From<Value> for Kind {
 }
 
 // The bytes of a name or a text, if they are all there.
-#[inline]
+#[inline(always)]
 fn spelled(bytes: &[u8], p: Place) -> Option<&[u8]>
     ensures { MatchOption result (length bytes.now < p.start + p.count) (λ t. Spelled bytes.now t.now p.start p.count) }
 {
@@ -50,7 +50,7 @@ fn spelled(bytes: &[u8], p: Place) -> Option<&[u8]>
 }
 
 // Which of two names or texts comes first. A place that goes past the bytes' end is no text's, so there any outcome does.
-#[inline]
+#[inline(always)]
 pub fn name_way(bytes: &[u8], a: Place, b: Place) -> Ordering
     ensures { OrdersTexts bytes.now a b result }
 {
@@ -64,7 +64,7 @@ pub fn name_way(bytes: &[u8], a: Place, b: Place) -> Ordering
 }
 
 // Whether two names are the same.
-#[inline]
+#[inline(always)]
 pub fn same_name(bytes: &[u8], a: Place, b: Place) -> bool
     ensures { MatchesTexts bytes.now a b result }
 {

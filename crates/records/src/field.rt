@@ -9,7 +9,7 @@ use values::row::Row;
 use values::value::{Field, Place, Value};
 
 // Whether two names are the same. Names of different lengths differ, so their bytes need no look.
-#[inline]
+#[inline(always)]
 pub fn is_named(bytes: &[u8], a: Place, b: Place) -> bool
     ensures { MatchesTexts bytes.now a b result }
 {
@@ -17,7 +17,7 @@ pub fn is_named(bytes: &[u8], a: Place, b: Place) -> bool
 }
 
 // The number of the first field with a name, of a record's fields.
-#[inline]
+#[inline(always)]
 pub fn index_of(bytes: &[u8], row: &Row, name: Place, place: Place) -> Option<usize>
     requires { FieldsBelow place (length (words row.now)) }
     ensures { FindsIndex bytes.now name place (words row.now) result }
@@ -29,7 +29,7 @@ pub fn index_of(bytes: &[u8], row: &Row, name: Place, place: Place) -> Option<us
 }
 
 // What a record has under a name.
-#[inline]
+#[inline(always)]
 pub fn field(bytes: &[u8], row: &Row, name: Place, place: Place) -> Option<Value>
     requires { FieldsBelow place (length (words row.now)) }
     ensures { Finds bytes.now name place (words row.now) result }

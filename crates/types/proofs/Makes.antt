@@ -1,11 +1,9 @@
 -- A table with one more shape, or none. Assumes nothing.
-use Rattle.std.proofs.Common.{◌≡◌, ℕ, zero, suc, ◌+◌, ◌-◌, ◌<◌, ◌≤◌, ◌==◌, Bool, true, false, ◌⊎◌, List, [], ◌∷◌, ◌++◌, length, get_or, take, drop, Some, None, sym, refl, ap, ◌∙◌, subst, inl, inr, arith}
+use Rattle.std.proofs.Common.{◌≡◌, ℕ, zero, suc, ◌+◌, ◌-◌, ◌<◌, ◌≤◌, Bool, true, false, ◌⊎◌, List, [], ◌∷◌, ◌++◌, length, get_or, take, drop, Some, None, sym, refl, ap, ◌∙◌, subst, inl, inr, arith}
 use Rattle.std.proofs.lemmas.List.{length-append, length-drop, length-take-le, get_or_append_left, get_or_at, append-nil, ext_get_or, take_all, take-take, drop-take}
-use Rattle.std.proofs.lemmas.Bool.Decides.{eqb_tells}
 use Rattle.std.specs.Bool.{Decides}
 use Rattle.types.specs.Shapes.{Shape, s_unit, s_rec, shape, held, shapes, Rising, Below, Good, Grown}
 use Rattle.types.specs.Tables.{Lies, Sound, Made, Found, Tells}
-use Rattle.types.proofs.Runs.{run_length}
 use Rattle.types.specs.declared.entry.Run.{Run}
 use Rattle.types.specs.declared.entry.Field.{Field}
 use Rattle.types.specs.declared.entry.Entry.{Entry}
@@ -177,21 +175,6 @@ records_told fs xs ys x y p q false a b e f d = λ h.
     let l : held fs p ≡ held fs q = cc in
     let z : ◌≡◌ {A = Bool} false true = d.1 (e ∙ (l ∙ sym f)) in
     cc
-
--- records of other counts are of other shapes
-pub records_apart : (fs : List Field) (x y : Entry) (p q : Run) → x ≡ Record p → y ≡ Record q → Lies (length fs) x → Lies (length fs) y → (p.count ≡ q.count → ⊥) → Tells (p.count == q.count) (shape fs x ≡ shape fs y)
-records_apart fs x y p q a b l m n =
-    elim (eqb_tells p.count q.count) [
-      | inl e ↦ absurd (n e.1)
-      | inr e ↦
-          rw e.0
-          (λ h.
-          let k : s_rec (held fs p) ≡ s_rec (held fs q) = sym (ap (λ z. shape fs z) a) ∙ (h ∙ ap (λ z. shape fs z) b) in
-          let j : held fs p ≡ held fs q = cc in
-          let low : p.start + p.count ≤ length fs = subst (λ z. Lies (length fs) z) a l in
-          let high : q.start + q.count ≤ length fs = subst (λ z. Lies (length fs) z) b m in
-          n (sym (run_length fs p.start p.count low) ∙ ap (λ (z : List Field). length z) j ∙ run_length fs q.start q.count high))
-    ]
 
 -- a table of no types
 pub sound_none : (w : ℕ) (es : List Entry) (fs : List Field) → es ≡ [] → Sound w es fs

@@ -19,8 +19,7 @@ impl Run {
     }
 }
 
-// Whether two entries are of the same shape. Bags stand apart, and records of other counts differ at once: this is asked of each type in the table for each
-// that is made.
+// Whether two entries are of the same shape. Bags have an arm of their own, since this is asked of each type in the table for each that is made.
 fn same_entry(fields: &[Field], x: Entry, y: Entry) -> bool
     requires first { Lies (length fields.now) x }
     requires second { Lies (length fields.now) y }
@@ -28,9 +27,7 @@ fn same_entry(fields: &[Field], x: Entry, y: Entry) -> bool
 {
     match (x, y) {
         (Entry::Bag(i), Entry::Bag(j)) => i == j,
-        (Entry::Record(p), Entry::Record(q)) => {
-            p.count == q.count && p.among(fields) == q.among(fields)
-        }
+        (Entry::Record(p), Entry::Record(q)) => p.among(fields) == q.among(fields),
         _ => x == y,
     }
 }
