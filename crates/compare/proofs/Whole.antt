@@ -2,9 +2,11 @@
 use Rattle.std.proofs.Common.{◌≡◌, ℕ, suc, ◌+◌, ◌-◌, ◌<◌, ◌≤◌, Bool, true, false, List, length, sym, refl, ap, ◌∙◌, subst, ap₂, arith}
 use Rattle.std.specs.declared.cmp.Ordering.{Ordering}
 use Rattle.std.specs.declared.cmp.Ordering.TheVariants.{Less, Equal, Greater}
+use Rattle.std.specs.Bool.{Decides}
 use Rattle.std.specs.Ordering.{is_eq, nat_cmp}
 use Rattle.std.specs.Cmp.Lexicographic.{slice_cmp}
 use Rattle.query.specs.Data.{Data, bag, rec, left, right, Datas, Fields, same, same_text}
+use Rattle.query.proofs.Texts.{same_text_true, same_text_self}
 use Rattle.ordering.specs.Order.{Way, alike, way, way_text, on_bag_way, on_rec_way, on_left_way, on_right_way, AlikeIffSame, WayTextIsLess}
 use Rattle.ordering.proofs.Alike.{alike_iff_same}
 use Rattle.ordering.proofs.Texts.{way_text_is_less, text_alike}
@@ -113,3 +115,26 @@ module _ (bs : List ℕ) (a b : Place) where
 
   pub texts_read : (x y : List ℕ) (o : Ordering) → Spelled bs x a.start a.count → Spelled bs y b.start b.count → o ≡ slice_cmp nat_cmp x y → OrdersTexts bs a b o
   texts_read x y o p q e = record { is = λ s t h k. ap stands e ∙ way_of_bytes x y ∙ ap₂ (λ (v w : List ℕ). way_text v w) (spelled_one p h) (spelled_one q k) }
+
+-- what `==` says of two texts
+decided : (x y : List ℕ) (r : Bool) → Decides r (x ≡ y) → r ≡ same_text x y
+decided x y true d = sym (subst (λ (z : List ℕ). same_text x z ≡ true) (d.0 refl) (same_text_self x))
+decided x y false d = by (same_text x y) refl
+  where
+    by : (s : Bool) → same_text x y ≡ s → false ≡ same_text x y
+    by true e = absurd (let no : false ≡ true = d.1 (same_text_true x y e) in cc)
+    by false e = sym e
+
+module _ (bs : List ℕ) (a b : Place) where
+  -- a name at one place is the same
+  pub names_one : a ≡ b → MatchesTexts bs a b true
+  names_one e =
+      record {
+        is = λ s t p q.
+            let r : Spelled bs t a.start a.count = subst (λ (z : Place). Spelled bs t z.start z.count) (sym e) q in
+            let w : s ≡ t = spelled_one p r in
+            sym (subst (λ (z : List ℕ). same_text s z ≡ true) w (same_text_self s));
+      }
+
+  pub names_read : (x y : List ℕ) (r : Bool) → Spelled bs x a.start a.count → Spelled bs y b.start b.count → Decides r (x ≡ y) → MatchesTexts bs a b r
+  names_read x y r p q d = record { is = λ s t g h. decided x y r d ∙ ap₂ same_text (spelled_one p g) (spelled_one q h) }

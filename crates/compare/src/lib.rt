@@ -63,12 +63,18 @@ pub fn name_way(bytes: &[u8], a: Place, b: Place) -> Ordering
     }
 }
 
-// Whether two names are the same.
+// Whether two names are the same, which is told faster than which of them comes first.
 #[inline(always)]
 pub fn same_name(bytes: &[u8], a: Place, b: Place) -> bool
     ensures { MatchesTexts bytes.now a b result }
 {
-    name_way(bytes, a, b).is_eq()
+    if a == b {
+        return true;
+    }
+    match (spelled(bytes, a), spelled(bytes, b)) {
+        (Some(x), Some(y)) => x == y,
+        _ => true,
+    }
 }
 
 // Two values of which no parts are to be compared. This is no part of what calls itself: there each part within a part takes its share of the

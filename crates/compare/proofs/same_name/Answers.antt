@@ -1,9 +1,12 @@
-use Rattle.std.proofs.Common.{sym, subst}
-use Rattle.compare.specs.Compare.{MatchesTexts}
-use Rattle.compare.proofs.Whole.{texts_match}
+use Rattle.std.proofs.Common.{rules}
+use Rattle.std.proofs.lemmas.Bool.Decides.{Decides-eqb}
+use Rattle.std.proofs.lemmas.Slice.Eq.{slice_eq-Decides}
+use Rattle.compare.proofs.Whole.{names_one, names_read}
 use Rattle.compare.proofs.same_name.Goals as goal
 
-pub returns : goal.returns
-returns c =
-    subst (λ r. MatchesTexts c.args.bytes.now c.args.a c.args.b r) (sym c.is_eq.ensures)
-    (texts_match c.args.bytes.now c.args.a c.args.b c.name_way.result c.name_way.ensures)
+pub returns-then-eq : goal.returns-then-eq
+returns-then-eq c = names_one c.args.bytes.now c.args.a c.args.b (search rules)
+
+pub returns-in-Some-Some : goal.returns-in-Some-Some
+returns-in-Some-Some c =
+    names_read c.args.bytes.now c.args.a c.args.b c.in-Some-Some.x.now c.in-Some-Some.y.now c.eq-in-Some-Some.result c.in-Some-Some.ensures c.in-Some-Some.ensures' (slice_eq-Decides Decides-eqb _ _ _ c.eq-in-Some-Some.ensures)
