@@ -1,5 +1,5 @@
 -- A bag: its things stand in a row, and are of one type.
-use Rattle.std.proofs.Common.{◌≡◌, ℕ, ◌+◌, ◌-◌, ◌<◌, true, List, length, Some, None, Option, sym, refl, ap, ◌∙◌, subst, arith}
+use Rattle.std.proofs.Common.{◌≡◌, ℕ, zero, suc, ◌+◌, ◌-◌, ◌<◌, true, List, length, Some, None, Option, sym, refl, ap, ◌∙◌, subst, arith}
 use Rattle.query.specs.Data.{bag, Datas, none, more}
 use Rattle.query.specs.Query.{Ty}
 use Rattle.query.specs.Types.{is_of, all_of}
@@ -14,7 +14,7 @@ use Rattle.loading.specs.declared.loaded.Slots.{Slots}
 use Rattle.loading.specs.declared.loaded.Part.TheVariants as pt
 use Rattle.loading.specs.declared.loaded.Typing.TheVariants.{Shared}
 use Rattle.loading.specs.Fronts.{Tells}
-use Rattle.loading.specs.Loads.{Laid, Ready, Comes, LoadsPart, EachTyped, RowReady, LoadsRow}
+use Rattle.loading.specs.Loads.{Laid, Ready, Comes, LoadsPart, EachTyped, RowReady, SharedLong, LoadsRow}
 use Rattle.loading.proofs.Spots.{At, at_stands, stands_at}
 use Rattle.loading.proofs.Typed.{BagOf, bag_of}
 
@@ -22,6 +22,11 @@ all_typed : (bs : List ℕ) (ty depth : ℕ) (ds : Datas) (t : Ty) → Stands ty
 unfolding EachTyped
 all_typed bs ty depth none t s f h e = tt
 all_typed bs ty depth (more d ds) t s f h e = (t, s, f, first_of d ds t e, h, all_typed bs ty depth ds t s f h (rest_of d ds t e))
+
+-- what is so of a number where there are no things, and of that which they told where there are some
+long_of : (count typed told : ℕ) (P : ℕ → Type 0) → (count ≡ 0 → P typed) → (0 < count → typed ≡ told) → (0 < count → P told) → P typed
+long_of zero typed told P empty some p = empty refl
+long_of (suc k) typed told P empty some p = subst P (sym (some (omega arith))) (p (omega arith))
 
 module _ (bs : List ℕ) (at ty depth top count : ℕ) where
   -- a bag of so many things stands there
@@ -56,19 +61,20 @@ module _ (bs : List ℕ) (at ty depth top count : ℕ) where
   unfolding size_d
   bag_none m end f = record { means = λ g b. on_datum g b m None (omega (arith, f.means (row_ready g b))) }
 
-  pub bag_loaded : (m : List ℕ) (end : ℕ) (r : Slots) (typed : ℕ) → r.start ≡ top → LoadsRow Shared bs (at + 5) (ty + 1) count (depth - 1) top m end (Some r) → ((t : Ty) → Stands types bs (ty + 1) t → FitsTy t → typed ≡ length (write_ty t))
+  pub bag_loaded : (m : List ℕ) (end : ℕ) (r : Slots) (typed : ℕ) → r.start ≡ top → LoadsRow Shared bs (at + 5) (ty + 1) count (depth - 1) top m end (Some r) → (count ≡ 0 → SharedLong Shared bs (ty + 1) typed) → (0 < count → typed ≡ r.typed)
       → LoadsPart (pt.Bag count) bs at ty depth top m (Some record { value = Bag (record { start = r.start; count = count }); top = end; length = 5 + r.length; typed = 1 + typed })
   unfolding Holds size_d
-  bag_loaded m end r typed e l tells = record {
+  bag_loaded m end r typed e l empty some = record {
     means = λ g b.
         let f = facts g b in
         let a = l.means (row_ready g b) in
+        let told = long_of count typed r.typed (SharedLong Shared bs (ty + 1)) empty some a.shared in
         rw e (on_datum g b m (Some record { value = Bag (record { start = top; count = count }); top = end; length = 5 + r.length; typed = 1 + typed }) (record {
           now_used = a.now_used;
           grown = a.grown;
           holds = (record { start = top; count = count }, refl, a.run, a.lie);
           thrifty = omega (arith, a.thrifty);
           long = omega (arith, a.long, f.long);
-          long_type = ap (λ x. 1 + x) (tells f.item (stands_at types bs (ty + 1) f.item f.stand_type) f.fit_type) ∙ sym f.long_type;
+          long_type = ap (λ x. 1 + x) (told f.item (stands_at types bs (ty + 1) f.item f.stand_type) f.fit_type) ∙ sym f.long_type;
         }));
   }

@@ -6,12 +6,13 @@ use Rattle.query.specs.Types.{is_of}
 use Rattle.query.specs.Size.{size_d, size_ds}
 use Rattle.format.specs.Wire.{write_data, write_datas, write_ty, FitsTy, FitsData, FitsDatas, data_of, types}
 use Rattle.format.specs.Nodes.{Stands}
+use Rattle.format.specs.QueryLaws.{types_way}
 use Rattle.values.specs.Memory.{Kept, Stored, HoldsAll}
 use Rattle.values.specs.Height.{height_ty}
 use Rattle.values.proofs.Frame.{kept_refl, kept_trans, stored_kept}
 use Rattle.loading.specs.declared.loaded.Typing.{Typing}
 use Rattle.loading.specs.declared.loaded.Typing.TheVariants.{Shared, Own}
-use Rattle.loading.specs.Loads.{Laid, Ready, Loads, LiesInside, next_type, EachTyped, RowReady, LoadsRow}
+use Rattle.loading.specs.Loads.{Laid, Ready, Loads, LiesInside, next_type, EachTyped, RowReady, SharedLong, LoadsRow}
 use Rattle.loading.proofs.Spots.{At, stands_at, at_same, at_first, at_second}
 use Rattle.loading.proofs.Rows.{join_none, join_one, many_size, Filling, fill_none, fill_under, fill_all, fill_more}
 
@@ -73,8 +74,32 @@ next_within : (y : Typing) (type k end : ℕ) → type + k ≤ end → next_type
 next_within Shared type k end h = omega arith
 next_within Own type k end h = h
 
+-- where the next type stands: where the first one does, if they share it
+abbrev pub Onward : Typing → ℕ → ℕ → Type 0
+Onward Shared kind type = type ≡ kind
+Onward Own kind type = kind ≤ type
+
+onward_begun : (y : Typing) (kind : ℕ) → Onward y kind kind
+onward_begun Shared kind = refl
+onward_begun Own kind = omega arith
+
+onward_next : (y : Typing) (kind type k : ℕ) → Onward y kind type → Onward y kind (next_type y type k)
+onward_next Shared kind type k o = o
+onward_next Own kind type k o = omega (arith, o)
+
+onward_below : (y : Typing) (kind type : ℕ) → Onward y kind type → kind ≤ type
+onward_below Shared kind type o = omega (arith, o)
+onward_below Own kind type o = o
+
+-- one that was loaded tells how long its type is
+long_told : (y : Typing) (bs : List ℕ) (kind type : ℕ) (t : Ty) (k : ℕ) → Onward y kind type → Stands types bs type t → FitsTy t → k ≡ length (write_ty t) → SharedLong y bs kind k
+long_told Shared bs kind type t k o s f e = λ u z g.
+    let w : Stands types bs kind t = subst (λ x. Stands types bs x t) o s in
+    e ∙ ap (λ x. length (write_ty x)) (types_way t u w.rest z.rest f g (sym w.is ∙ z.is)).0
+long_told Own bs kind type t k o s f e = tt
+
 module _ (y : Typing) (bs : List ℕ) (at kind count depth top : ℕ) where
-  pub record Going (g : RowReady y bs at kind count depth top) (n : List ℕ) (i high next type : ℕ) : Type 0 where
+  pub record Going (g : RowReady y bs at kind count depth top) (n : List ℕ) (i high next type last : ℕ) : Type 0 where
     pub done : Datas
     pub to_come : Datas
     pub is : g.datas ≡ join done to_come
@@ -85,17 +110,20 @@ module _ (y : Typing) (bs : List ℕ) (at kind count depth top : ℕ) where
     pub long : next + length (write_datas to_come) ≡ at + length (write_datas g.datas)
     pub filling : Filling bs g.used top count n i high done
     pub thrifty : high + 5 * size_ds to_come + 3 * i ≤ top + 3 * count + 5 * size_ds g.datas
+    pub shared : 0 < i → SharedLong y bs kind last
 
-  -- `i` data were loaded: free memory begins at `high`; the next one stands at `next`, and its type at `type`
-  pub record Turn (m n : List ℕ) (i high next type : ℕ) : Type 0 where
+  -- `i` data were loaded: free memory begins at `high`; the next one stands at `next`, and its type at `type`; the last one's type has `last` bytes
+  pub record Turn (m n : List ℕ) (i high next type last : ℕ) : Type 0 where
     pub kept : Kept top m n
     pub above : top + 3 * count ≤ high
     pub after : at ≤ next
     pub before : next ≤ length bs
     pub before_type : type ≤ length bs
-    pub going : (g : RowReady y bs at kind count depth top) → Going g n i high next type
+    pub before_end : kind + last ≤ length bs
+    pub onward : Onward y kind type
+    pub going : (g : RowReady y bs at kind count depth top) → Going g n i high next type last
 
-  begun : (m : List ℕ) → at ≤ length bs → kind ≤ length bs → Turn m m 0 (top + 3 * count) at kind
+  begun : (m : List ℕ) → at ≤ length bs → kind ≤ length bs → Turn m m 0 (top + 3 * count) at kind 0
   unfolding join
   begun m l k = record {
     kept = kept_refl;
@@ -103,6 +131,8 @@ module _ (y : Typing) (bs : List ℕ) (at kind count depth top : ℕ) where
     after = omega arith;
     before = l;
     before_type = k;
+    before_end = omega (arith, k);
+    onward = onward_begun y kind;
     going = λ g. record {
       done = none;
       to_come = g.datas;
@@ -114,17 +144,18 @@ module _ (y : Typing) (bs : List ℕ) (at kind count depth top : ℕ) where
       long = refl;
       filling = fill_none bs g.used top count m;
       thrifty = omega arith;
+      shared = λ z. absurd (omega (arith, z));
     };
   }
 
-  pub begin : (m n : List ℕ) (high : ℕ) → n ≡ m → high ≡ top + 3 * count → at ≤ length bs → kind ≤ length bs → Turn m n 0 high at kind
-  begin m n high e q l k = subst (λ h. Turn m n 0 h at kind) (sym q) (subst (λ y. Turn m y 0 (top + 3 * count) at kind) (sym e) (begun m l k))
+  pub begin : (m n : List ℕ) (high : ℕ) → n ≡ m → high ≡ top + 3 * count → at ≤ length bs → kind ≤ length bs → Turn m n 0 high at kind 0
+  begin m n high e q l k = subst (λ h. Turn m n 0 h at kind 0) (sym q) (subst (λ y. Turn m y 0 (top + 3 * count) at kind 0) (sym e) (begun m l k))
 
   pub no_room : (m : List ℕ) (end : ℕ) → length m < top + 3 * count → LoadsRow y bs at kind count depth top m end None
   no_room m end l = record { means = λ g. omega (arith, g.many, many_size g.datas) }
 
-  module _ (m n : List ℕ) (i high next type : ℕ) (t : Turn m n i high next type) where
-    pub finished : i ≡ count → (start : ℕ) → LoadsRow y bs at kind count depth top n high (Some (record { start = start; length = next - at }))
+  module _ (m n : List ℕ) (i high next type last : ℕ) (t : Turn m n i high next type last) where
+    pub finished : i ≡ count → (start : ℕ) → LoadsRow y bs at kind count depth top n high (Some (record { start = start; length = next - at; typed = last }))
     finished e start = record {
       means = λ g.
           let w = t.going g in
@@ -138,6 +169,7 @@ module _ (y : Typing) (bs : List ℕ) (at kind count depth top : ℕ) where
             lie = subst (λ x. HoldsAll bs n a.now_used x top count) (sym x) a.lie;
             thrifty = thrift high i top count w.to_come g.datas w.thrifty e;
             long = far next at w.to_come (length (write_datas g.datas)) z w.long;
+            shared = λ l. w.shared (omega (arith, l, e));
           };
     }
 
@@ -171,13 +203,15 @@ module _ (y : Typing) (bs : List ℕ) (at kind count depth top : ℕ) where
       }
 
       module _ (l : Laid) (n' n'' : List ℕ) (kept : Kept high n n') (inside : LiesInside bs next type high n' l) (f : Loads bs next type depth high n' (Some l)) (st : Stored (top + 3 * i) l.value n' n'') where
-        pub turned : Turn m n'' (i + 1) l.top (next + l.length) (next_type y type l.typed)
+        pub turned : Turn m n'' (i + 1) l.top (next + l.length) (next_type y type l.typed) l.typed
         turned = record {
           kept = kept_trans (kept_trans t.kept kept (omega (arith, t.above))) (stored_kept {top = top} st (omega arith)) (omega arith);
           above = omega (arith, t.above, inside.above);
           after = omega (arith, t.after);
           before = inside.datum;
           before_type = next_within y type l.typed (length bs) inside.type;
+          before_end = omega (arith, onward_below y kind type t.onward, inside.type);
+          onward = onward_next y kind type l.typed t.onward;
           going = λ g.
               let w = t.going g in
               let x = nexts g in
@@ -193,5 +227,6 @@ module _ (y : Typing) (bs : List ℕ) (at kind count depth top : ℕ) where
                 long = omega (arith, w.long, x.long, c.long);
                 filling = fill_more bs g.used top count n i high w.done g.low t.above w.filling x.item l.value n' n'' c.now_used l.top lt kept c.grown inside.above c.holds st;
                 thrifty = omega (arith, w.thrifty, x.size, c.thrifty);
+                shared = λ z. long_told y bs kind type x.own l.typed t.onward x.stands_type x.fit_type c.long_type;
               };
         }

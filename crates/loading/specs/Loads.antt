@@ -103,27 +103,33 @@ pub record RowReady (y : Typing) (bs : List ℕ) (at ty count depth top : ℕ) :
   pub many : how_many datas ≡ count
   pub low : Under used top
 
--- they were loaded: their slots lie in a row at the old top
-pub record RowLoaded (bs : List ℕ) (ds : Datas) (u : Used) (old count : ℕ) (m : List ℕ) (top bytes : ℕ) : Type 0 where
+-- a type that data in a row share has so many bytes
+abbrev pub SharedLong : Typing → List ℕ → ℕ → ℕ → Type 0
+SharedLong Shared bs ty k = (t : Ty) → Stands types bs ty t → FitsTy t → k ≡ length (write_ty t)
+SharedLong Own bs ty k = Unit {0}
+
+-- they were loaded: their slots lie in a row at the old top, and the last of them, if any, told how long its type is
+pub record RowLoaded (y : Typing) (bs : List ℕ) (ty : ℕ) (ds : Datas) (u : Used) (old count : ℕ) (m : List ℕ) (top bytes typed : ℕ) : Type 0 where
   pub now_used : Used
   pub grown : Grown u now_used old top
   pub run : Run now_used old (3 * count)
   pub lie : HoldsAll bs m now_used ds old count
   pub thrifty : top ≤ old + 5 * size_ds ds
   pub long : bytes ≡ length (write_datas ds)
+  pub shared : 0 < count → SharedLong y bs ty typed
 
 -- or fewer words were left
-abbrev pub RowComes : List ℕ → Datas → Used → ℕ → ℕ → List ℕ → ℕ → Option Slots → Type 0
-RowComes bs ds u old count m top (Some r) = RowLoaded bs ds u old count m top r.length
-RowComes bs ds u old count m top None = length m < old + 5 * size_ds ds
+abbrev pub RowComes : Typing → List ℕ → ℕ → Datas → Used → ℕ → ℕ → List ℕ → ℕ → Option Slots → Type 0
+RowComes y bs ty ds u old count m top (Some r) = RowLoaded y bs ty ds u old count m top r.length r.typed
+RowComes y bs ty ds u old count m top None = length m < old + 5 * size_ds ds
 
 -- Of any bytes: the slots begin at the old top, and lie below the new one.
-abbrev pub RowInside : List ℕ → ℕ → ℕ → ℕ → ℕ → Option Slots → Type 0
-RowInside bs at count old top (Some r) = (r.start ≡ old) × (old + 3 * count ≤ top) × (at + r.length ≤ length bs)
-RowInside bs at count old top None = Unit {0}
+abbrev pub RowInside : List ℕ → ℕ → ℕ → ℕ → ℕ → ℕ → Option Slots → Type 0
+RowInside bs at ty count old top (Some r) = (r.start ≡ old) × (old + 3 * count ≤ top) × (at + r.length ≤ length bs) × (ty + r.typed ≤ length bs)
+RowInside bs at ty count old top None = Unit {0}
 
 pub record LoadsRow (y : Typing) (bs : List ℕ) (at ty count depth old : ℕ) (m : List ℕ) (top : ℕ) (r : Option Slots) : Type 0 where
-  pub means : (g : RowReady y bs at ty count depth old) → RowComes bs g.datas g.used old count m top r
+  pub means : (g : RowReady y bs at ty count depth old) → RowComes y bs ty g.datas g.used old count m top r
 
 -- tables, each of the type that stands in its order
 pub record TablesReady (bs : List ℕ) (at ty count top : ℕ) : Type 0 where

@@ -50,29 +50,33 @@ pub(crate) fn load_row(
     ensures frozen { memory.new.kept.now ≡ memory.old.kept.now }
     ensures same { memory.new.made.ghost_name ≡ memory.old.made.ghost_name }
     ensures kept { Kept memory.old.top (all memory.old) (all memory.new) }
-    ensures inside { RowInside spot.entry.bytes.now spot.entry.at count memory.old.top memory.new.top result }
+    ensures inside { RowInside spot.entry.bytes.now spot.entry.at spot.entry.ty count memory.old.top memory.new.top result }
     ensures means { LoadsRow typing spot.entry.bytes.now spot.entry.at spot.entry.ty count depth memory.old.top (all memory.new) memory.new.top result }
 {
     let bytes = spot.bytes;
     let start = memory.reserve::<Value>(count)?;
     let mut at = spot.at;
     let mut ty = spot.ty;
+    let mut typed = 0;
     for i in 0..count {
         let l = load_data(Spot { bytes, at, ty }, depth, memory)?;
         memory.set_nth(start, i, l.value);
         at += l.length;
+        typed = l.typed;
         ty = match typing {
             Typing::Shared => ty,
-            Typing::Own => ty + l.typed,
+            Typing::Own => ty + typed,
         };
     }
     Some(Slots {
         start,
         length: at - spot.at,
+        typed,
     })
 }
 
-// Loads a bag of so many things.
+// Loads a bag of so many things. These tell how many bytes their type has, so it is gone through only where there are none: else bags that nest
+// would each go through all types within their own.
 #[cycle(load)]
 fn load_bag(spot: Spot, count: usize, depth: usize, memory: &mut Memory) -> Option<Loaded>
     requires placed { Placed spot.bytes.now spot.at 5 spot.ty 1 }
@@ -91,7 +95,11 @@ fn load_bag(spot: Spot, count: usize, depth: usize, memory: &mut Memory) -> Opti
         ty,
     };
     let slots = load_row(things, Typing::Shared, count, depth - 1, memory)?;
-    let typed = type_length(bytes, ty);
+    let typed = if count == 0 {
+        type_length(bytes, ty)
+    } else {
+        slots.typed
+    };
     Some(Loaded {
         value: Value::Bag(Place {
             start: slots.start,

@@ -28,11 +28,13 @@ pub enum Typing {
     Own,
 }
 
-// Data that were loaded in a row: where their slots begin, and how many bytes they have.
+// Data that were loaded in a row: where their slots begin, how many bytes they have, and how many the type of the last one has (0 where there are
+// none).
 #[derive(Clone, Copy)]
 pub struct Slots {
     pub start: usize,
     pub length: usize,
+    pub typed: usize,
 }
 
 // Which side of an either a datum is.

@@ -1,6 +1,5 @@
 -- Names of different lengths, and a field by its name.
-use Rattle.std.proofs.Common.{◌≡◌, ℕ, zero, suc, ◌+◌, ◌*◌, ◌<◌, ◌≤◌, Bool, true, false, List, [], ◌∷◌, length, drop, Some, None, Option, sym, refl, ap, ◌∙◌, subst, add-one, arith, length-drop, length-take-le}
-use Rattle.std.specs.Option.{MatchOption}
+use Rattle.std.proofs.Common.{◌≡◌, ℕ, zero, suc, ◌+◌, ◌*◌, ◌<◌, ◌≤◌, Bool, true, false, List, [], ◌∷◌, length, drop, Some, None, sym, refl, ap, ◌∙◌, subst, add-one, arith, length-drop, length-take-le}
 use Rattle.query.specs.Data.{pick, same_text, Name, Data, Fields, field, get}
 use Rattle.query.proofs.Texts.{same_text_true}
 use Rattle.values.specs.Memory.{Used, Spelled, Holds, loaded_field}
@@ -59,9 +58,3 @@ module _ (bs : List ℕ) (q p : Place) (m : List ℕ) where
       record {
         means = λ a u fs top sp r. get_past p.count (omega arith) h a u fs top sp r ∙ ap (get a) (rest_all bs m u fs p.start p.count r.lie);
       }
-
--- what was found of the fields' numbers
-pub first_is : (bs : List ℕ) (q p : Place) (m : List ℕ) (r : Option ℕ) →
-    MatchOption r ((k : ℕ) → 0 ≤ k → k < p.count → IsNamed bs q p m k false) (λ i. (0 ≤ i) × (i < p.count) × IsNamed bs q p m i true × ((k : ℕ) → 0 ≤ k → k < i → IsNamed bs q p m k false)) → FindsIndex bs q p m r
-first_is bs q p m None h = λ k lt. h k (omega arith) lt
-first_is bs q p m (Some i) h = (h.1, h.2, λ k lt. h.3 k (omega arith) lt)

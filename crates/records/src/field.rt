@@ -22,10 +22,13 @@ pub fn index_of(bytes: &[u8], row: &Row, name: Place, place: Place) -> Option<us
     requires { FieldsBelow place (length (words row.now)) }
     ensures { FindsIndex bytes.now name place (words row.now) result }
 {
-    (0..place.count).find(|i| {
-        let field = row.nth::<Field>(place.start, *i);
-        is_named(bytes, name, field.name)
-    })
+    for i in 0..place.count {
+        let field = row.nth::<Field>(place.start, i);
+        if is_named(bytes, name, field.name) {
+            return Some(i);
+        }
+    }
+    None
 }
 
 // What a record has under a name.

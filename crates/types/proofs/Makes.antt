@@ -5,6 +5,7 @@ use Rattle.std.specs.Bool.{Decides}
 use Rattle.types.specs.Shapes.{Shape, s_unit, s_rec, shape, held, shapes, Rising, Below, Good, Grown}
 use Rattle.types.specs.Tables.{Lies, Sound, Made, Found, Tells}
 use Rattle.types.specs.declared.entry.Run.{Run}
+use Rattle.types.specs.declared.entry.Two.{Two}
 use Rattle.types.specs.declared.entry.Field.{Field}
 use Rattle.types.specs.declared.entry.Entry.{Entry}
 use Rattle.types.specs.declared.entry.Entry.TheVariants.{Unit as Unit', Num, Truth, Text, Bag, Either, Record}
@@ -167,14 +168,22 @@ pub sealed_cut : (w : ℕ) (es : List Entry) (fs gs : List Field) (n i k : ℕ) 
     → Made w es (take n fs) es gs (s_rec (drop n fs)) (length fs - n) i
 sealed_cut w es fs gs n i k h s q e f = sealed_old w es fs gs n i h s q (subst (λ z. Found fs es (Record (record { start = n; count = z })) (Some i)) e f)
 
--- two records are of the same shape where their fields are the same
-pub records_told : (fs xs ys : List Field) (x y : Entry) (p q : Run) (r : Bool) → x ≡ Record p → y ≡ Record q → xs ≡ held fs p → ys ≡ held fs q → Decides r (xs ≡ ys) → Tells r (shape fs x ≡ shape fs y)
-records_told fs xs ys x y p q true a b e f d = ap (λ z. shape fs z) a ∙ (ap s_rec (sym e ∙ (d.0 refl ∙ f)) ∙ sym (ap (λ z. shape fs z) b))
-records_told fs xs ys x y p q false a b e f d = λ h.
-    let k : s_rec (held fs p) ≡ s_rec (held fs q) = sym (ap (λ z. shape fs z) a) ∙ (h ∙ ap (λ z. shape fs z) b) in
-    let l : held fs p ≡ held fs q = cc in
-    let z : ◌≡◌ {A = Bool} false true = d.1 (e ∙ (l ∙ sym f)) in
-    cc
+-- the parts of each type stand before it
+pub sound_part : (w : ℕ) (es : List Entry) (fs : List Field) (i : ℕ) → Sound w es fs → i < length es → Below w i (shape fs (get_or es i Unit'))
+sound_part w es fs i s h = subst (λ z. Below w i z) (shapes_at fs es i) (s.good.parts i (omega (arith, h, shapes_length fs es)))
+
+pub bag_after : (w n : ℕ) (fs : List Field) (e : Entry) (j : ℕ) → e ≡ Bag j → Below w n (shape fs e) → j < n
+unfolding Below
+bag_after w n fs e j q b = subst (λ (x : Entry). Below w n (shape fs x)) q b
+
+pub either_after : (w n : ℕ) (fs : List Field) (e : Entry) (p : Two) → e ≡ Either p → Below w n (shape fs e) → (p.left < n) × (p.right < n)
+unfolding Below
+either_after w n fs e p q b = subst (λ (x : Entry). Below w n (shape fs x)) q b
+
+-- what decides tells
+pub told_by : {P : Type 0} (r : Bool) → Decides r P → Tells r P
+told_by true d = d.0 refl
+told_by false d = λ p. let z : ◌≡◌ {A = Bool} false true = d.1 p in cc
 
 -- a table of no types
 pub sound_none : (w : ℕ) (es : List Entry) (fs : List Field) → es ≡ [] → Sound w es fs

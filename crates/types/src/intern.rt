@@ -1,5 +1,5 @@
 // Looking a type up in the table, and putting it in where it is not there yet.
-ghost use Rattle.std.specs.Prelude.{◌≡◌, ℕ, ◌+◌, ◌-◌, ◌<◌, ◌≤◌, length, take, drop, vec_len, vec_capacity, slice_index_or};
+ghost use Rattle.std.specs.Prelude.{◌≡◌, ℕ, ◌+◌, ◌-◌, ◌<◌, ◌≤◌, ◌≢◌, List, length, take, drop, vec_len, vec_capacity, slice_index_or};
 ghost use Rattle.types.specs.Shapes.{shape, held, Below, Rising, s_rec};
 ghost use Rattle.types.specs.Tables.{Sound, Found, Lies, Tells, Made, no_such};
 ghost use Rattle.types.specs.Outcomes.{Kept};
@@ -19,15 +19,32 @@ impl Run {
     }
 }
 
-// Whether two entries are of the same shape. Bags have an arm of their own, since this is asked of each type in the table for each that is made.
+// Whether two records' fields are the same. Where they differ, they mostly do in the last or the first already.
+fn same_fields(xs: &[Field], ys: &[Field]) -> bool
+    ensures { Tells result (xs.now ≡ ys.now) }
+{
+    let n = xs.len();
+    if n != ys.len() {
+        return false;
+    }
+    if n == 0 {
+        return true;
+    }
+    xs[n - 1] == ys[n - 1] && xs[0] == ys[0] && xs == ys
+}
+
+// Whether two entries are of the same shape. The second is asked for its kind first: it is the one that is looked for, so that its kind is known
+// before a whole table is gone through.
 fn same_entry(fields: &[Field], x: Entry, y: Entry) -> bool
     requires first { Lies (length fields.now) x }
     requires second { Lies (length fields.now) y }
     ensures { Tells result (shape fields.now x ≡ shape fields.now y) }
 {
-    match (x, y) {
-        (Entry::Bag(i), Entry::Bag(j)) => i == j,
-        (Entry::Record(p), Entry::Record(q)) => p.among(fields) == q.among(fields),
+    match y {
+        Entry::Bag(j) => matches!(x, Entry::Bag(i) if i == j),
+        Entry::Either(q) => matches!(x, Entry::Either(p) if p == q),
+        Entry::Record(q) =>
+            matches!(x, Entry::Record(p) if same_fields(p.among(fields), q.among(fields))),
         _ => x == y,
     }
 }
@@ -46,15 +63,29 @@ pub fn field_at(fields: &[Field], i: usize) -> Field
     fields[i]
 }
 
-// Where a shape stands among entries.
-fn find(entries: &[Entry], fields: &[Field], e: Entry) -> Option<usize>
+// Where a type stands at the earliest: after its parts, as each does. So types that nest are not looked for among all those within them. A record's
+// fields are not gone through for it.
+fn after_parts(e: Entry) -> usize
+    ensures { (w n : ℕ) → (fs : List Field) → Below w n (shape fs e) → result ≤ n }
+{
+    match e {
+        Entry::Bag(j) => j as usize + 1,
+        Entry::Either(p) => p.left.max(p.right) as usize + 1,
+        _ => 0,
+    }
+}
+
+// Where a shape stands among entries, of which those before `from` are others.
+fn find(entries: &[Entry], fields: &[Field], e: Entry, from: usize) -> Option<usize>
     requires lies { (i : ℕ) → i < length entries.now → Lies (length fields.now) (slice_index_or entries.now i Entry.Unit) }
     requires here { Lies (length fields.now) e }
+    requires within { from ≤ length entries.now }
+    requires before { (i : ℕ) → i < from → shape fields.now (slice_index_or entries.now i Entry.Unit) ≢ shape fields.now e }
     ensures { Found fields.now entries.now e result }
 {
-    for (i, x) in entries.iter().enumerate() {
+    for (i, x) in entries[from..].iter().enumerate() {
         if same_entry(fields, *x, e) {
-            return Some(i);
+            return Some(from + i);
         }
     }
     None
@@ -70,7 +101,7 @@ pub fn plain(names: usize, entries: &mut Vec<Entry>, fields: &[Field], e: Entry)
     ensures kept { vec_capacity entries.new ≡ vec_capacity entries.old }
     ensures made { Made names entries.old.items fields.now entries.new.items fields.now (shape fields.now e) 0 result }
 {
-    match find(entries, fields, e) {
+    match find(entries, fields, e, after_parts(e)) {
         Some(i) => i as u32,
         None => {
             let r = entries.len() as u32;
@@ -96,7 +127,7 @@ pub fn seal(names: usize, entries: &mut Vec<Entry>, fields: &mut Vec<Field>, sta
         start: start as u32,
         count: count as u32,
     });
-    match find(entries, fields, e) {
+    match find(entries, fields, e, 0) {
         Some(i) => {
             fields.truncate(start);
             i as u32

@@ -1,6 +1,4 @@
 use Rattle.std.proofs.Common.{rules}
-use Rattle.std.proofs.lemmas.Bool.Decides.{Decides-eqb}
-use Rattle.std.proofs.lemmas.Slice.Eq.{slice_eq-Decides}
 use Rattle.compare.proofs.Whole.{names_one, names_read}
 use Rattle.compare.proofs.same_name.Goals as goal
 
@@ -9,4 +7,4 @@ returns-then-eq c = names_one c.args.bytes.now c.args.a c.args.b (search rules)
 
 pub returns-in-Some-Some : goal.returns-in-Some-Some
 returns-in-Some-Some c =
-    names_read c.args.bytes.now c.args.a c.args.b c.in-Some-Some.x.now c.in-Some-Some.y.now c.eq-in-Some-Some.result c.in-Some-Some.ensures c.in-Some-Some.ensures' (slice_eq-Decides Decides-eqb _ _ _ c.eq-in-Some-Some.ensures)
+    names_read c.args.bytes.now c.args.a c.args.b c.in-Some-Some.x.now c.in-Some-Some.y.now c.same_bytes.result c.in-Some-Some.ensures c.in-Some-Some.ensures' c.same_bytes.ensures

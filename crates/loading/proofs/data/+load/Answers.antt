@@ -7,7 +7,7 @@ use Rattle.loading.proofs.Bags as bags
 use Rattle.loading.proofs.Records as records
 use Rattle.loading.proofs.Sides as sides
 use Rattle.loading.proofs.data.+load.Goals as goal
-use Rattle.loading.proofs.data.+load.Goals.{load_row-in-Shared, load_row-in-Own}
+use Rattle.loading.proofs.data.+load.Goals.{load_row-in-Shared, load_row-in-Own, load_bag-then-count-eq0, load_bag-else-count-eq0}
 use Rattle.loading.specs.Loads.{next_type}
 
 -- a datum
@@ -36,7 +36,7 @@ load_row-loop-i-init t c =
 
 pub load_row-returns-in_err-l-clause-means : goal.load_row-returns-in_err-l-clause-means
 load_row-returns-in_err-l-clause-means t c =
-    rw (c.from_residual-in_err-l.ensures, ← c.in_ok-start.ensures.begins) (lined.item_none c.args.typing c.args.spot.bytes.now c.args.spot.at c.args.spot.ty c.args.count c.args.depth c.in_ok-start.start _ _ _ _ _ _ c.loop-i.invariant.0 c.loop-i-test.true _ _ c.in_err-l.ensures.means)
+    rw (c.from_residual-in_err-l.ensures, ← c.in_ok-start.ensures.begins) (lined.item_none c.args.typing c.args.spot.bytes.now c.args.spot.at c.args.spot.ty c.args.count c.args.depth c.in_ok-start.start _ _ _ _ _ _ _ c.loop-i.invariant.0 c.loop-i-test.true _ _ c.in_err-l.ensures.means)
 
 pub load_row-loop-i-preserved : goal.load_row-loop-i-preserved
 load_row-loop-i-preserved t c =
@@ -44,7 +44,7 @@ load_row-loop-i-preserved t c =
     let s = c.set_nth.ensures.steady in
     let ty : c.match-typing.ty ≡ next_type c.args.typing c.loop-i.ty c.in_ok-l.l.typed
     = elim c.match-typing.branch [ load_row-in-Shared w ↦ rw w.in-Shared.is w.ty-is | load_row-in-Own w ↦ rw w.in-Own.is w.ty-is ] in (
-      rw (s.top, ty) (lined.turned c.args.typing c.args.spot.bytes.now c.args.spot.at c.args.spot.ty c.args.count c.args.depth c.in_ok-start.start _ _ _ _ _ _ c.loop-i.invariant.0 c.loop-i-test.true _ _ _ e.kept e.inside e.means c.set_nth.ensures.put),
+      rw (s.top, ty) (lined.turned c.args.typing c.args.spot.bytes.now c.args.spot.at c.args.spot.ty c.args.count c.args.depth c.in_ok-start.start _ _ _ _ _ _ _ c.loop-i.invariant.0 c.loop-i-test.true _ _ _ e.kept e.inside e.means c.set_nth.ensures.put),
       s.frozen ∙ e.frozen ∙ c.loop-i.invariant.1,
       s.same ∙ e.same ∙ c.loop-i.invariant.2,
     )
@@ -52,7 +52,7 @@ load_row-loop-i-preserved t c =
 pub load_row-returns-clause-means : goal.load_row-returns-clause-means
 load_row-returns-clause-means t c =
     let all : c.loop-i.i ≡ c.args.count = omega (arith, c.loop-i.auto.i-end, c.loop-i-test.false) in
-    rw (← c.in_ok-start.ensures.begins) (lined.finished c.args.typing c.args.spot.bytes.now c.args.spot.at c.args.spot.ty c.args.count c.args.depth c.in_ok-start.start _ _ _ _ _ _ c.loop-i.invariant.0 all c.in_ok-start.start)
+    rw (← c.in_ok-start.ensures.begins) (lined.finished c.args.typing c.args.spot.bytes.now c.args.spot.at c.args.spot.ty c.args.count c.args.depth c.in_ok-start.start _ _ _ _ _ _ _ c.loop-i.invariant.0 all c.in_ok-start.start)
 
 -- a bag
 pub load_bag-returns-in_err-slots-clause-means : goal.load_bag-returns-in_err-slots-clause-means
@@ -61,7 +61,15 @@ load_bag-returns-in_err-slots-clause-means t c = rw c.from_residual.ensures (bag
 pub load_bag-returns-clause-means : goal.load_bag-returns-clause-means
 load_bag-returns-clause-means t c =
     let e = c.in_ok-slots.ensures in
-    bags.bag_loaded c.args.spot.bytes.now c.args.spot.at c.args.spot.ty c.args.depth c.args.memory.now.top c.args.count _ _ c.in_ok-slots.slots c.type_length-typed.result e.inside.0 e.means c.type_length-typed.ensures.tells
+    bags.bag_loaded c.args.spot.bytes.now c.args.spot.at c.args.spot.ty c.args.depth c.args.memory.now.top c.args.count _ _ c.in_ok-slots.slots c.if-count-eq0.typed e.inside.0 e.means
+    (λ z. elim c.if-count-eq0.branch [
+      | load_bag-then-count-eq0 w ↦ rw w.typed-is w.type_length-typed.ensures.tells
+      | load_bag-else-count-eq0 w ↦ absurd (w.if-count-eq0.false z)
+    ])
+    (λ z. elim c.if-count-eq0.branch [
+      | load_bag-then-count-eq0 w ↦ absurd (omega (arith, z, w.if-count-eq0.true))
+      | load_bag-else-count-eq0 w ↦ w.typed-is
+    ])
 
 -- a record
 pub load_record-returns-in_err-head-clause-means : goal.load_record-returns-in_err-head-clause-means

@@ -21,7 +21,7 @@ decreases-load_row l = 3 * l.depth + 3
 
 abbrev pub invariant-load_row-loop-i : goal.invariant-load_row-loop-i
 invariant-load_row-loop-i l =
-    lined.Turn l.typing l.spot.bytes.now l.spot.at l.spot.ty l.count l.depth l.start (all l.fn.memory) (all l.memory) l.i l.memory.top l.at l.ty × (l.memory.kept.now ≡ l.fn.memory.kept.now) × (l.memory.made.ghost_name ≡ l.fn.memory.made.ghost_name)
+    lined.Turn l.typing l.spot.bytes.now l.spot.at l.spot.ty l.count l.depth l.start (all l.fn.memory) (all l.memory) l.i l.memory.top l.at l.ty l.typed × (l.memory.kept.now ≡ l.fn.memory.kept.now) × (l.memory.made.ghost_name ≡ l.fn.memory.made.ghost_name)
 
 abbrev pub invariant-load_record-loop-i : goal.invariant-load_record-loop-i
 invariant-load_record-loop-i l =

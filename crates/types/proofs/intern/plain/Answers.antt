@@ -1,9 +1,17 @@
-use Rattle.std.proofs.Common.{refl, arith}
-use Rattle.types.proofs.Makes.{made_old, made_push, lies_more}
+use Rattle.std.proofs.Common.{refl, subst, arith}
+use Rattle.types.specs.Shapes.{Below}
+use Rattle.types.proofs.Makes.{made_old, made_push, lies_more, sound_part}
 use Rattle.types.proofs.intern.plain.Goals as goal
 
 pub find-requires : goal.find-requires
-find-requires c = rw c.deref.ensures.value (record { lies = c.requires.sound.lies; here = lies_more 0 _ c.args.e (omega arith) c.requires.plain })
+find-requires c =
+    let l = c.after_parts.ensures _ _ _ c.requires.parts in
+    rw c.deref.ensures.value (record {
+      lies = c.requires.sound.lies;
+      here = lies_more 0 _ c.args.e (omega arith) c.requires.plain;
+      within = l;
+      before = λ i h q. omega (arith, h, c.after_parts.ensures _ i _ (subst (λ z. Below c.args.names i z) q (sound_part _ _ _ i c.requires.sound (omega (arith, h, l)))));
+    })
 
 pub returns-in-Some : goal.returns-in-Some
 returns-in-Some c =

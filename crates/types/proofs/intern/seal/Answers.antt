@@ -3,7 +3,7 @@ use Rattle.types.proofs.Makes.{sealed_cut, sealed_push, sound_wide}
 use Rattle.types.proofs.intern.seal.Goals as goal
 
 pub find-requires : goal.find-requires
-find-requires c = rw c.deref.ensures.value (rw c.deref-2.ensures.value (record { lies = (sound_wide _ _ _ c.args.start c.requires.start c.requires.sound).lies; here = omega arith }))
+find-requires c = rw c.deref.ensures.value (rw c.deref-2.ensures.value (record { lies = (sound_wide _ _ _ c.args.start c.requires.start c.requires.sound).lies; here = omega arith; within = omega arith; before = λ i h. absurd (omega (arith, h)) }))
 
 pub returns-in-Some : goal.returns-in-Some
 returns-in-Some c =
