@@ -14,9 +14,9 @@ use crate::written::written;
 use eval::scene::{Lent, Scene};
 use eval::work::work_out;
 use format::node::Ask;
-use literals::load::load_literals;
+use literals::load::load_literals_of_type;
 use loading::loaded::Spot;
-use loading::tables::load_tables;
+use loading::tables::load_each;
 use operators::came::Stop;
 use values::lent::Memory;
 use values::value::Value;
@@ -72,8 +72,8 @@ fn load_all(
         at: ask.tables_at,
         ty: TYPES_AT,
     };
-    load_tables(spot, ask.tables, memory)?;
-    load_literals(bytes, ask.query_at, query, guide, marks, memory)
+    load_each::<true>(spot, ask.tables, memory)?;
+    load_literals_of_type(bytes, ask.query_at, query, guide, marks, memory)
 }
 
 // What is loaded lies in one part of the lent memory and is only read from then on; what is made is written into the other.

@@ -1,5 +1,6 @@
 // The checks of a request, in the order in which they refuse it.
 ghost use Rattle.asking_desk.specs.Checked.{TypeTold, Checked};
+ghost use Rattle.asking_desk.specs.Kept.{KeepsRows};
 
 use crate::memory::Desk;
 use asking::asked::TYPES_AT;
@@ -13,7 +14,8 @@ use typed::whole::query_type;
 impl Desk {
     // The number of the query's type in the memory's table, with the guide to the query written; none where it has no type.
     fn typed(&mut self, bytes: &[u8], ask: Ask) -> Option<u32>
-        ensures { TypeTold bytes.now self.new.guide.items ask result }
+        ensures told { TypeTold bytes.now self.new.guide.items ask result }
+        ensures in_order { KeepsRows self.old self.new }
     {
         let query = bytes.get(ask.query_at..)?;
         let _length = mark(query, &mut self.guide, 0, LIMIT)?;
@@ -30,7 +32,8 @@ impl Desk {
     // The request to ask that the bytes are, once it has passed every check; or the refusal by the first that it does not pass, with a place in the bytes.
     // Each check hands on its value or returns its refusal by `let .. else`: that form is the project's rule for these checks.
     pub fn checked(&mut self, bytes: &[u8]) -> Result<Ask, (Refusal, usize)>
-        ensures { Checked bytes.now self.new.guide.items result }
+        ensures checked { Checked bytes.now self.new.guide.items result }
+        ensures in_order { KeepsRows self.old self.new }
     {
         let read = read_request(bytes);
         let Ok(request) = read else {

@@ -1,5 +1,6 @@
 // Memory of the desk's own. It is made once and used again for each request, and it is enough for every request: none can fail for want of it.
-ghost use Rattle.std.specs.Prelude.{◌≤◌, vec_len};
+ghost use Rattle.std.specs.Prelude.{◌≤◌, vec_len, IfOk};
+ghost use Rattle.types.specs.Outcomes.{InOrder};
 ghost use Rattle.typing.specs.Room.{Spacious};
 
 use std::alloc::{AllocError, Global};
@@ -22,7 +23,9 @@ pub struct Desk {
 }
 
 // A desk, unless the memory for it can't be had.
-pub fn make_desk(heap: Global) -> Result<Desk, AllocError> {
+pub fn make_desk(heap: Global) -> Result<Desk, AllocError>
+    ensures { IfOk result (λ d. InOrder d.memory.table) }
+{
     let memory = new(heap)?;
     let guide = Vec::from_elem(heap, 0, LONGEST)?;
     let marks = Vec::from_elem(heap, 0, LONGEST)?;

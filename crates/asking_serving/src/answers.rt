@@ -1,5 +1,6 @@
 // A request is put to the desk, and its answer turned into a line.
 ghost use Rattle.std.specs.Prelude.{length, OnOk};
+ghost use Rattle.asking_desk.specs.Kept.{KeepsRows};
 ghost use Rattle.asking_serving.specs.Shown.{Shows, Served};
 
 use asking_desk::answer::Answer;
@@ -35,7 +36,8 @@ pub(crate) fn tell(
     work: bool,
     out: &mut Vec<u8>,
 ) -> Result<(), AllocError>
-    ensures { OnOk result (Served bytes.now (length lent.old) work out.old.items out.new.items) }
+    ensures served { OnOk result (Served bytes.now (length lent.old) work out.old.items out.new.items) }
+    ensures in_order { KeepsRows desk.old desk.new }
 {
     show_answer(heap, answer(desk, bytes, lent), work, out)
 }
@@ -50,7 +52,8 @@ pub fn answer_one(
     work: bool,
     out: &mut Vec<u8>,
 ) -> Result<(), AllocError>
-    ensures { OnOk result (Served bytes.now numbers work out.old.items out.new.items) }
+    ensures served { OnOk result (Served bytes.now numbers work out.old.items out.new.items) }
+    ensures in_order { KeepsRows desk.old desk.new }
 {
     make_large(memory, numbers)?;
     let lent = &mut memory.as_mut_slice()[0..numbers];

@@ -13,7 +13,7 @@ pub fn in_bag(memory: &mut Memory, value: Value) -> Option<Value>
     ensures same { memory.new.made.ghost_name ≡ memory.old.made.ghost_name }
     ensures makes { PutsInBag value (all memory.old) memory.old.top (all memory.new) (made_to memory.new.top result) }
 {
-    let start = memory.push(value)?;
+    let start = memory.put_next(value)?;
     Some(Value::Bag(Place { start, count: 1 }))
 }
 

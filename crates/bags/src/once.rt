@@ -5,7 +5,7 @@ ghost use Rattle.values.specs.Lent.{words, all, made_to};
 ghost use Rattle.bags.specs.Bags.{IsWithin, TakesOnce};
 
 use compare::same;
-use values::item::Item;
+use values::item::InPlace;
 use values::lent::Memory;
 use values::row::Row;
 use values::value::{Place, Value};
@@ -41,7 +41,7 @@ pub fn distinct(bytes: &[u8], memory: &mut Memory, place: Place, depth: usize) -
                 start: found.start - 3,
                 count: found.count + 1,
             };
-            thing.store(memory, found.start);
+            thing.put(memory, found.start);
         }
     }
     Some(Value::Bag(found))

@@ -204,7 +204,7 @@ fn each_of(
     for i in 0..place.count {
         let x = memory.nth(place.start, i);
         let came = work_out(lent, query, at, env, x, memory, left)?;
-        memory.set_nth(start, i, came.value);
+        memory.put_nth(start, i, came.value);
         left = came.left;
     }
     Ok(Came {
@@ -247,7 +247,7 @@ fn keep_of(
         left = came.left;
         memory.release(high);
         if yes {
-            let Some(_slot) = memory.push(x) else {
+            let Some(_slot) = memory.put_next(x) else {
                 return Err(Stop::NoRoom);
             };
             count += 1;

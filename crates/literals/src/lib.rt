@@ -5,3 +5,5 @@ pub mod fill;
 pub mod load;
 pub mod number;
 pub mod step;
+#[cfg(test)]
+mod tests;

@@ -61,20 +61,29 @@ module _ (bs : List ℕ) (at ty depth top count : ℕ) where
   unfolding size_d
   bag_none m end f = record { means = λ g b. on_datum g b m None (omega (arith, f.means (row_ready g b))) }
 
-  pub bag_loaded : (m : List ℕ) (end : ℕ) (r : Slots) (typed : ℕ) → r.start ≡ top → LoadsRow Shared bs (at + 5) (ty + 1) count (depth - 1) top m end (Some r) → (count ≡ 0 → SharedLong Shared bs (ty + 1) typed) → (0 < count → typed ≡ r.typed)
+  -- a bag of so many things was loaded, once it is told how long their type is
+  loaded_once_told : (m : List ℕ) (end : ℕ) (r : Slots) (typed : ℕ) → r.start ≡ top → LoadsRow Shared bs (at + 5) (ty + 1) count (depth - 1) top m end (Some r) → ((g : Ready bs at ty depth top) → There g → SharedLong Shared bs (ty + 1) typed)
       → LoadsPart (pt.Bag count) bs at ty depth top m (Some record { value = Bag (record { start = r.start; count = count }); top = end; length = 5 + r.length; typed = 1 + typed })
   unfolding Holds size_d
-  bag_loaded m end r typed e l empty some = record {
+  loaded_once_told m end r typed e l told = record {
     means = λ g b.
         let f = facts g b in
         let a = l.means (row_ready g b) in
-        let told = long_of count typed r.typed (SharedLong Shared bs (ty + 1)) empty some a.shared in
         rw e (on_datum g b m (Some record { value = Bag (record { start = top; count = count }); top = end; length = 5 + r.length; typed = 1 + typed }) (record {
           now_used = a.now_used;
           grown = a.grown;
           holds = (record { start = top; count = count }, refl, a.run, a.lie);
           thrifty = omega (arith, a.thrifty);
           long = omega (arith, a.long, f.long);
-          long_type = ap (λ x. 1 + x) (told f.item (stands_at types bs (ty + 1) f.item f.stand_type) f.fit_type) ∙ sym f.long_type;
+          long_type = ap (λ x. 1 + x) (told g b f.item (stands_at types bs (ty + 1) f.item f.stand_type) f.fit_type) ∙ sym f.long_type;
         }));
   }
+
+  pub bag_loaded : (m : List ℕ) (end : ℕ) (r : Slots) (typed : ℕ) → r.start ≡ top → LoadsRow Shared bs (at + 5) (ty + 1) count (depth - 1) top m end (Some r) → ((t : Ty) → Stands types bs (ty + 1) t → FitsTy t → typed ≡ length (write_ty t))
+      → LoadsPart (pt.Bag count) bs at ty depth top m (Some record { value = Bag (record { start = r.start; count = count }); top = end; length = 5 + r.length; typed = 1 + typed })
+  bag_loaded m end r typed e l tells = loaded_once_told m end r typed e l (λ g b. tells)
+
+  -- its things told it, if there are any
+  pub bag_loaded_by_things : (m : List ℕ) (end : ℕ) (r : Slots) (typed : ℕ) → r.start ≡ top → LoadsRow Shared bs (at + 5) (ty + 1) count (depth - 1) top m end (Some r) → (count ≡ 0 → SharedLong Shared bs (ty + 1) typed) → (0 < count → typed ≡ r.typed)
+      → LoadsPart (pt.Bag count) bs at ty depth top m (Some record { value = Bag (record { start = r.start; count = count }); top = end; length = 5 + r.length; typed = 1 + typed })
+  bag_loaded_by_things m end r typed e l empty some = loaded_once_told m end r typed e l (λ g b. let a = l.means (row_ready g b) in long_of count typed r.typed (SharedLong Shared bs (ty + 1)) empty some a.shared)

@@ -11,9 +11,10 @@ use crate::loaded::{Loaded, Part, Side, Slots, Spot, Typing};
 use values::lent::Memory;
 use values::value::{Field, Place, Value};
 
-// Loads a datum into free memory.
+// Loads a datum into free memory. `OF_TYPE` is for data that are known to be of their types: it takes less time where bags nest, and refuses more of
+// other data.
 #[cycle(load)]
-pub fn load_data(spot: Spot, depth: usize, memory: &mut Memory) -> Option<Loaded>
+pub fn load<const OF_TYPE: bool>(spot: Spot, depth: usize, memory: &mut Memory) -> Option<Loaded>
     ensures frozen { memory.new.kept.now ≡ memory.old.kept.now }
     ensures same { memory.new.made.ghost_name ≡ memory.old.made.ghost_name }
     ensures kept { Kept memory.old.top (all memory.old) (all memory.new) }
@@ -32,15 +33,15 @@ pub fn load_data(spot: Spot, depth: usize, memory: &mut Memory) -> Option<Loaded
             length,
             typed: 1,
         }),
-        Part::Bag(count) => load_bag(spot, count, depth, memory),
-        Part::Record => load_record(spot, depth, memory),
-        Part::Either(side) => load_side(spot, side, depth, memory),
+        Part::Bag(count) => load_bag::<OF_TYPE>(spot, count, depth, memory),
+        Part::Record => load_record::<OF_TYPE>(spot, depth, memory),
+        Part::Either(side) => load_side::<OF_TYPE>(spot, side, depth, memory),
     }
 }
 
 // Loads so many data that stand one after the other: their slots are reserved in a row, and then filled one by one.
 #[cycle(load)]
-pub(crate) fn load_row(
+pub(crate) fn load_row<const OF_TYPE: bool>(
     spot: Spot,
     typing: Typing,
     count: usize,
@@ -59,8 +60,8 @@ pub(crate) fn load_row(
     let mut ty = spot.ty;
     let mut typed = 0;
     for i in 0..count {
-        let l = load_data(Spot { bytes, at, ty }, depth, memory)?;
-        memory.set_nth(start, i, l.value);
+        let l = load::<OF_TYPE>(Spot { bytes, at, ty }, depth, memory)?;
+        memory.put_nth(start, i, l.value);
         at += l.length;
         typed = l.typed;
         ty = match typing {
@@ -75,10 +76,15 @@ pub(crate) fn load_row(
     })
 }
 
-// Loads a bag of so many things. These tell how many bytes their type has, so it is gone through only where there are none: else bags that nest
-// would each go through all types within their own.
+// Loads a bag of so many things. These tell how many bytes their type has, so it need be gone through only where there are none: else bags that nest
+// each go through all types within their own. But things that are not of the type tell it wrong.
 #[cycle(load)]
-fn load_bag(spot: Spot, count: usize, depth: usize, memory: &mut Memory) -> Option<Loaded>
+fn load_bag<const OF_TYPE: bool>(
+    spot: Spot,
+    count: usize,
+    depth: usize,
+    memory: &mut Memory,
+) -> Option<Loaded>
     requires placed { Placed spot.bytes.now spot.at 5 spot.ty 1 }
     requires deep { 0 < depth }
     ensures frozen { memory.new.kept.now ≡ memory.old.kept.now }
@@ -94,11 +100,11 @@ fn load_bag(spot: Spot, count: usize, depth: usize, memory: &mut Memory) -> Opti
         at: spot.at + 5,
         ty,
     };
-    let slots = load_row(things, Typing::Shared, count, depth - 1, memory)?;
-    let typed = if count == 0 {
-        type_length(bytes, ty)
-    } else {
+    let slots = load_row::<OF_TYPE>(things, Typing::Shared, count, depth - 1, memory)?;
+    let typed = if OF_TYPE && count != 0 {
         slots.typed
+    } else {
+        type_length(bytes, ty)
     };
     Some(Loaded {
         value: Value::Bag(Place {
@@ -114,7 +120,7 @@ fn load_bag(spot: Spot, count: usize, depth: usize, memory: &mut Memory) -> Opti
 // equal places. The record's own names are the same, byte for byte, and are passed over. The loop is not `load_row`'s:
 // with a name to be read for each field, and a type of its own, one loop for both would be longer than the two.
 #[cycle(load)]
-fn load_record(spot: Spot, depth: usize, memory: &mut Memory) -> Option<Loaded>
+fn load_record<const OF_TYPE: bool>(spot: Spot, depth: usize, memory: &mut Memory) -> Option<Loaded>
     requires placed { Placed spot.bytes.now spot.at 1 spot.ty 1 }
     requires deep { 0 < depth }
     ensures frozen { memory.new.kept.now ≡ memory.old.kept.now }
@@ -134,7 +140,7 @@ fn load_record(spot: Spot, depth: usize, memory: &mut Memory) -> Option<Loaded>
     let mut ty = spot.ty + head.length;
     for i in 0..head.count {
         let count = name_length(bytes, name)?;
-        let l = load_data(Spot { bytes, at, ty }, depth - 1, memory)?;
+        let l = load::<OF_TYPE>(Spot { bytes, at, ty }, depth - 1, memory)?;
         let field = Field {
             name: Place {
                 start: name + 4,
@@ -142,7 +148,7 @@ fn load_record(spot: Spot, depth: usize, memory: &mut Memory) -> Option<Loaded>
             },
             value: l.value,
         };
-        memory.set_nth(start, i, field);
+        memory.put_nth(start, i, field);
         name += 4 + count;
         at += l.length;
         ty += l.typed;
@@ -159,7 +165,12 @@ fn load_record(spot: Spot, depth: usize, memory: &mut Memory) -> Option<Loaded>
 
 // Loads a side of an either, and then its value into a slot of its own.
 #[cycle(load)]
-fn load_side(spot: Spot, side: Side, depth: usize, memory: &mut Memory) -> Option<Loaded>
+fn load_side<const OF_TYPE: bool>(
+    spot: Spot,
+    side: Side,
+    depth: usize,
+    memory: &mut Memory,
+) -> Option<Loaded>
     requires placed { Placed spot.bytes.now spot.at 1 spot.ty 1 }
     requires deep { 0 < depth }
     ensures frozen { memory.new.kept.now ≡ memory.old.kept.now }
@@ -176,8 +187,8 @@ fn load_side(spot: Spot, side: Side, depth: usize, memory: &mut Memory) -> Optio
         at: spot.at + 1,
         ty: ty + before,
     };
-    let l = load_data(own, depth - 1, memory)?;
-    let slot = memory.push(l.value)?;
+    let l = load::<OF_TYPE>(own, depth - 1, memory)?;
+    let slot = memory.put_next(l.value)?;
     match side {
         Side::Left => Some(Loaded {
             value: Value::Left(slot),
@@ -190,4 +201,15 @@ fn load_side(spot: Spot, side: Side, depth: usize, memory: &mut Memory) -> Optio
             typed: 1 + before + l.typed,
         }),
     }
+}
+
+// Loads a datum into free memory, whatever it is.
+pub fn load_data(spot: Spot, depth: usize, memory: &mut Memory) -> Option<Loaded>
+    ensures frozen { memory.new.kept.now ≡ memory.old.kept.now }
+    ensures same { memory.new.made.ghost_name ≡ memory.old.made.ghost_name }
+    ensures kept { Kept memory.old.top (all memory.old) (all memory.new) }
+    ensures inside { Inside spot.entry.bytes.now spot.entry.at spot.entry.ty memory.old.top (all memory.new) (laid memory.new.top result) }
+    ensures means { Loads spot.entry.bytes.now spot.entry.at spot.entry.ty depth memory.old.top (all memory.new) (laid memory.new.top result) }
+{
+    load::<false>(spot, depth, memory)
 }

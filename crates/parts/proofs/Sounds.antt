@@ -122,9 +122,13 @@ module _ (count limit : ℕ) (xs : List ℕ) where
   pub types_found : (c : Counted) → Measures (many types count) (total size_t) (all_hold sound) limit xs (Some c) → ToldInFront (many types count) (total size_t) all_sound limit xs (Some c.length)
   types_found c m = record { finds = λ ss rest f q l. let t = m.measured ss rest f q in (sym (schema_sound ss) ∙ t.0, t.3); within = m.bounded.1 }
 
-  pub schema_told : (r : Option ℕ) → ToldInFront (many types count) (total size_t) all_sound limit xs r → SchemaTold count limit xs (is_some r)
-  schema_told None c ss rest f q l = sym (c.finds ss rest f q (omega (arith, types_in ss)))
-  schema_told (Some n) c ss rest f q l = sym (c.finds ss rest f q (omega (arith, types_in ss))).0
+  pub schema_by_types : (r : Option ℕ) → ToldInFront (many types count) (total size_t) all_sound limit xs r → SchemaTold count limit xs (is_some r)
+  schema_by_types None c ss rest f q l = sym (c.finds ss rest f q (omega (arith, types_in ss)))
+  schema_by_types (Some n) c ss rest f q l = sym (c.finds ss rest f q (omega (arith, types_in ss))).0
+
+  pub schema_told : (r : Option Counted) → Measures (many types count) (total size_t) (all_hold sound) limit xs r → SchemaTold count limit xs (is_some r)
+  schema_told None m = schema_by_types None (types_fail m)
+  schema_told (Some c) m = schema_by_types (Some c.length) (types_found c m)
 
 -- one type is a row of one
 module _ (limit : ℕ) (xs : List ℕ) where
@@ -141,3 +145,10 @@ module _ (limit : ℕ) (xs : List ℕ) where
         finds = λ u rest f q l. let t = c.finds (u ∷ []) rest (refl, (f, tt)) (one_written u rest q) (omega arith) in (one_sounds u ∙ t.0, t.1 ∙ ap length (append-nil (write_ty u)));
         within = c.within;
       }
+
+  -- so of what was measured
+  pub type_fails : Measures (many types 1) (total size_t) (all_hold sound) limit xs None → ToldInFront types size_t sound limit xs None
+  type_fails m = type_told None (types_fail 1 limit xs m)
+
+  pub type_found : (c : Counted) → Measures (many types 1) (total size_t) (all_hold sound) limit xs (Some c) → ToldInFront types size_t sound limit xs (Some c.length)
+  type_found c m = type_told (Some c.length) (types_found 1 limit xs c m)

@@ -3,7 +3,7 @@ use Rattle.std.proofs.Common.{◌≡◌, ℕ, ◌+◌, ◌*◌, ◌<◌, ◌≤�
 use Rattle.std.proofs.lemmas.Bool.{le-leb, lt-leb, leb-true, leb-false}
 use Rattle.query.specs.Data.{pick, same_text, Name, Data, Fields, no_field, field, left_out, one_of, only}
 use Rattle.values.specs.Memory.{Used, Spelled, Holds, loaded_field, Kept, StoredField, Agree}
-use Rattle.values.specs.Lent.{all, Pushed, Crowded}
+use Rattle.values.specs.Lent.{all, PushedThere, Crowded}
 use Rattle.values.specs.Making.{RecordLies}
 use Rattle.values.proofs.Frame.{kept_refl, kept_trans, kept_agree, slot_same, holds_kept}
 use Rattle.values.specs.declared.lent.Memory.{Memory}
@@ -64,7 +64,7 @@ module _ (told : ℕ → Place → Bool → Type 0) (p : Place) (m n : Memory) (
           holds = holds_kept bs u x.datum f.value a (λ k y. y) (subst (λ (h : Field). Holds bs (all m) u x.datum h.value) (sym at_first) x.holds);
         }
 
-    pub keep_push : {o : Memory} {start : ℕ} → told i f.name true → Pushed 5 loaded_field f n o start → Keeping told p m o (i + 1) (count + 1)
+    pub keep_push : {o : Memory} {start : ℕ} → told i f.name true → PushedThere 5 loaded_field f n o start → Keeping told p m o (i + 1) (count + 1)
     keep_push {o} t s =
         record {
           frozen = s.moved.frozen ∙ g.frozen;

@@ -12,6 +12,6 @@ pub fn as_field(memory: &mut Memory, name: Place, value: Value) -> Option<Value>
     ensures same { memory.new.made.ghost_name ≡ memory.old.made.ghost_name }
     ensures makes { MakesField name value (all memory.old) memory.old.top (all memory.new) (made_to memory.new.top result) }
 {
-    let start = memory.push(Field { name, value })?;
+    let start = memory.put_next(Field { name, value })?;
     Some(Value::Record(Place { start, count: 1 }))
 }

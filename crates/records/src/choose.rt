@@ -21,7 +21,7 @@ fn chosen<F: Fn(usize, Place) -> bool>(memory: &mut Memory, place: Place, keeps:
     for i in 0..place.count {
         let field = memory.nth::<Field>(place.start, i);
         if keeps(i, field.name) {
-            memory.push(field)?;
+            memory.put_next(field)?;
             count += 1;
         }
     }

@@ -1,7 +1,11 @@
 // Tables of a file of requests, loaded into memory and written out again: how many, and how many came out as they stood, byte for byte.
 #![tactic(auto)]
 
+#[cfg(test)]
+mod other;
 mod trip;
+#[cfg(test)]
+mod words;
 
 use serving::fault::Fault;
 use serving::requests::Requests;

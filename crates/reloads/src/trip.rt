@@ -5,7 +5,7 @@ ghost use Rattle.loading.specs.Loads.{laid, Loads};
 use checks::{LIMIT, of_schema, within_limit};
 use format::node::{Ask, Request};
 use format::requests::read_request;
-use loading::data::load_data;
+use loading::data;
 use loading::loaded::{Loaded, Spot};
 use values::lent::Memory;
 use values::row::Row;
@@ -42,7 +42,7 @@ fn load(bytes: &[u8], at: usize, ty: usize, mem: &mut [u64]) -> Option<Loaded>
         made: mem,
         top: 0,
     };
-    load_data(Spot { bytes, at, ty }, LIMIT, &mut memory)
+    data::load::<true>(Spot { bytes, at, ty }, LIMIT, &mut memory)
 }
 
 // Whether what was loaded is written as the bytes from the place on.

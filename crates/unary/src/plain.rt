@@ -33,7 +33,7 @@ pub fn sided<F: FnOnce(usize) -> Value>(
     ensures same { memory.new.made.ghost_name ≡ memory.old.made.ghost_name }
     ensures turns { (on : Data → Data) → Sides (λ at r. F.post side at r) on → Turns (λ d. came 0 (on d)) v (all memory.old) memory.old.top left (all memory.new) (came_to memory.new.top result) }
 {
-    let at = memory.push(v).ok_or(Stop::NoRoom)?;
+    let at = memory.put_next(v).ok_or(Stop::NoRoom)?;
     Ok(Came {
         value: side(at),
         left,

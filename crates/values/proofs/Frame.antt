@@ -2,6 +2,8 @@
 use Rattle.std.proofs.Common.{◌≡◌, ℕ, ◌+◌, ◌*◌, ◌<◌, ◌≤◌, T, List, get_or, sym, refl, ◌∙◌, subst, arith}
 use Rattle.query.specs.Data.{Data, unit, num, truth, text, bag, rec, left, right, Datas, none, more, Fields, no_field, field}
 use Rattle.values.specs.Memory.{loaded, Stored, Kept, Used, Under, Spelled, Holds, HoldsAll, HoldsFields, Agree}
+use Rattle.values.specs.Lent.{Pushed, PushedThere}
+use Rattle.values.specs.declared.lent.Memory.{Memory}
 use Rattle.values.specs.declared.value.Value.{Value}
 
 pub kept_refl : {top : ℕ} {m : List ℕ} → Kept top m m
@@ -74,3 +76,7 @@ module _ (bs : List ℕ) where
           subst (λ v. Holds bs n w d v) (sym (slot_same m n (at + 2) (λ k p q. g k (omega arith) (omega (arith, h.1))))) (holds_kept w d (loaded m (at + 2)) a f h.3),
           fields_kept w fs (at + 5) h.0 a f (λ k p q. g k (omega arith) (omega (arith, h.1))) h.4,
         )
+
+-- what was written into the slice that was lent was written
+pub pushed_there : {A : Type 0} {width : ℕ} {read : List ℕ → ℕ → A} {x : A} {m n : Memory} {start : ℕ} → PushedThere width read x m n start → Pushed width read x m n start
+pushed_there p = record { begins = p.begins; put = p.put; moved = record { frozen = p.moved.frozen; top = p.moved.top } }

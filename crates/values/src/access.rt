@@ -1,9 +1,9 @@
 // Words, and what lies in so many of them, read from memory and written to it.
 ghost use Rattle.std.specs.Prelude.{◌≡◌, ℕ, ◌+◌, ◌*◌, ◌^◌, ◌<◌, ◌≤◌, ◌++◌, length, slice_index, true, false, MatchOption};
 ghost use Rattle.values.specs.Memory.{Put, Readable};
-ghost use Rattle.values.specs.Lent.{words, all, WordPut, Steady, Pushes, Reserves, Appends};
+ghost use Rattle.values.specs.Lent.{words, all, WordPut, Steady, SteadyThere, Pushes, PushesThere, Reserves, Appends};
 
-use crate::item::Item;
+use crate::item::{InPlace, Item};
 use crate::lent::Memory;
 use crate::row::Row;
 use crate::value::{Place, Value};
@@ -92,6 +92,7 @@ impl<'a> Memory<'a> {
         requires within { at < length (all self.old) }
         ensures put { WordPut at word (all self.old) (all self.new) }
         ensures steady { Steady self.old self.new }
+        ensures same { self.new.made.ghost_name ≡ self.old.made.ghost_name }
     {
         let at = at - self.kept.len();
         self.made[at] = word;
@@ -126,8 +127,27 @@ impl<'a> Memory<'a> {
     pub fn push<T: Item>(&mut self, thing: T) -> Option<usize>
         ensures { Pushes T.WORDS T.read thing self.old self.new result }
     {
+        let at = self.reserve::<T>(1)?;
+        thing.store(self, at);
+        Some(at)
+    }
+
+    // As `set_nth`, into the slice that was lent.
+    pub fn put_nth<T: InPlace>(&mut self, start: usize, i: usize, thing: T)
+        requires over { length self.old.kept.now ≤ start }
+        requires within { start + T.Item.WORDS * i + T.Item.WORDS ≤ length (all self.old) }
+        ensures put { Put T.Item.WORDS T.Item.read (start + T.Item.WORDS * i) thing (all self.old) (all self.new) }
+        ensures steady { SteadyThere self.old self.new }
+    {
+        thing.put(self, start + T::WORDS * i)
+    }
+
+    // As `push`, into the slice that was lent.
+    pub fn put_next<T: InPlace>(&mut self, thing: T) -> Option<usize>
+        ensures { PushesThere T.Item.WORDS T.Item.read thing self.old self.new result }
+    {
         let start = self.reserve::<T>(1)?;
-        thing.store(self, start);
+        thing.put(self, start);
         Some(start)
     }
 
@@ -151,7 +171,7 @@ impl<'a> Memory<'a> {
         let start = self.reserve::<Value>(from.count)?;
         for i in 0..from.count {
             let value = self.nth::<Value>(from.start, i);
-            self.set_nth(start, i, value);
+            self.put_nth(start, i, value);
         }
         Some(start)
     }

@@ -1,7 +1,7 @@
 // What lies in memory as so many words: a value in a slot of three, a field in five.
 ghost use Rattle.std.specs.Prelude.{◌≡◌, ◌==◌, refl, false, ℕ, ◌+◌, ◌≤◌, List, length};
 ghost use Rattle.values.specs.Memory.{loaded, loaded_field, Put};
-ghost use Rattle.values.specs.Lent.{words, all, Steady, IsDecoded};
+ghost use Rattle.values.specs.Lent.{words, all, Steady, SteadyThere, IsDecoded};
 
 use crate::lent::Memory;
 use crate::row::Row;
@@ -27,6 +27,15 @@ pub trait Item: Copy + Drop {
         requires within { at + WORDS ≤ length (all memory.old) }
         ensures put { Put WORDS read at self (all memory.old) (all memory.new) }
         ensures steady { Steady memory.old memory.new };
+}
+
+// What is written into the very slice that was lent, so that whoever lent it finds it there. Of an item alone only the memory after it is known.
+pub trait InPlace: Item {
+    fn put(self, memory: &mut Memory, at: usize)
+        requires over { length memory.old.kept.now ≤ at }
+        requires within { at + Self.Item.WORDS ≤ length (all memory.old) }
+        ensures put { Put Self.Item.WORDS Self.Item.read at self (all memory.old) (all memory.new) }
+        ensures steady { SteadyThere memory.old memory.new };
 }
 
 // A value from the three words of its slot, whatever they are.
@@ -90,6 +99,12 @@ impl Item for Value {
     }
 
     fn store(self, memory: &mut Memory, at: usize) {
+        Value::put(self, memory, at);
+    }
+}
+
+impl InPlace for Value {
+    fn put(self, memory: &mut Memory, at: usize) {
         let [kind, x, y] = <[u64; 3]>::from(self);
         memory.set(at, kind);
         memory.set(at + 1, x);
@@ -118,8 +133,14 @@ impl Item for Field {
     }
 
     fn store(self, memory: &mut Memory, at: usize) {
+        Field::put(self, memory, at);
+    }
+}
+
+impl InPlace for Field {
+    fn put(self, memory: &mut Memory, at: usize) {
         memory.set(at, self.name.start as u64);
         memory.set(at + 1, self.name.count as u64);
-        self.value.store(memory, at + 2);
+        self.value.put(memory, at + 2);
     }
 }

@@ -10,11 +10,11 @@ loop-i-init c = (once_begins c.args.bytes.now c.args.place c.args.depth c.in_ok-
 
 pub loop-i-preserved-then-not-is_in : goal.loop-i-preserved-then-not-is_in
 loop-i-preserved-then-not-is_in c = (
-  once_takes c.args.bytes.now c.args.place _ c.args.depth _ _ c.loop-i.i c.loop-i.found.start c.loop-i.found.count c.loop-i.invariant.0 (omega arith) c.nth-thing.result c.nth-thing.ensures _ (rw c.row.ensures at c.if-not-is_in.ensures) c.store.ensures.put,
+  once_takes c.args.bytes.now c.args.place _ c.args.depth _ _ c.loop-i.i c.loop-i.found.start c.loop-i.found.count c.loop-i.invariant.0 (omega arith) c.nth-thing.result c.nth-thing.ensures _ (rw c.row.ensures at c.if-not-is_in.ensures) c.put.ensures.put,
   record {
-    frozen = c.store.ensures.steady.frozen ∙ c.loop-i.invariant.1.frozen;
-    same = c.store.ensures.steady.same ∙ c.loop-i.invariant.1.same;
-    top = c.store.ensures.steady.top ∙ c.loop-i.invariant.1.top;
+    frozen = c.put.ensures.steady.frozen ∙ c.loop-i.invariant.1.frozen;
+    same = c.put.ensures.steady.same ∙ c.loop-i.invariant.1.same;
+    top = c.put.ensures.steady.top ∙ c.loop-i.invariant.1.top;
   },
 )
 

@@ -325,8 +325,8 @@ each_of-returns-in_err-came t c =
       means = rw (p.1, p.2) (item_stops c.args.budget _ _ _ _ w c.loop-i-test.true _ c.nth-x.ensures _ _ e.means);
     }
 
-pub each_of-set_nth-requires : goal.each_of-set_nth-requires
-each_of-set_nth-requires t c =
+pub each_of-put_nth-requires : goal.each_of-put_nth-requires
+each_of-put_nth-requires t c =
     let e = c.in_ok-came.ensures in
     let w = c.loop-i.invariant.0 in
     record {
@@ -337,7 +337,7 @@ each_of-set_nth-requires t c =
 pub each_of-loop-i-preserved : goal.each_of-loop-i-preserved
 each_of-loop-i-preserved t c =
     let e = c.in_ok-came.ensures in
-    let s = c.set_nth.ensures in (
+    let s = c.put_nth.ensures in (
       rw s.steady.top (turned c.args.budget _ _ _ _ c.loop-i.invariant.0 c.loop-i-test.true _ c.nth-x.ensures _ _ e.kept e.means _ (rw c.in-Some.ensures.begins at s.put) c.requires),
       s.steady.frozen ∙ e.frozen ∙ c.loop-i.invariant.1,
       s.steady.same ∙ e.same ∙ c.loop-i.invariant.2,
@@ -412,7 +412,7 @@ keep_of-loop-i-preserved t c =
     let r = c.release.ensures in
     elim c.if-yes.branch [
       | keep_of-then-yes+in-Some w ↦ simp (w.memory-is, w.count-is) (
-        rw (w.in-Some.ensures.moved.top, r.top) (taken_in c.args.budget _ _ _ _ _ c.loop-i.invariant.0 c.loop-i-test.true _ c.nth-x.ensures c.if-left-eq0.false _ _ e.kept e.means (sym v ∙ ap Ok w.if-yes.true) _ (rw (r.words, r.top) at w.in-Some.ensures.put) (omega (arith, w.push.new.self.within, w.in-Some.ensures.moved.top, r.top, length-append w.push.new.self.kept.now w.push.new.self.made.now)) c.requires),
+        rw (w.in-Some.ensures.moved.top, r.top) (taken_in c.args.budget _ _ _ _ _ c.loop-i.invariant.0 c.loop-i-test.true _ c.nth-x.ensures c.if-left-eq0.false _ _ e.kept e.means (sym v ∙ ap Ok w.if-yes.true) _ (rw (r.words, r.top) at w.in-Some.ensures.put) (omega (arith, w.put_next.new.self.within, w.in-Some.ensures.moved.top, r.top, length-append w.put_next.new.self.kept.now w.put_next.new.self.made.now)) c.requires),
         w.in-Some.ensures.moved.frozen ∙ r.frozen ∙ e.frozen ∙ c.loop-i.invariant.1,
         w.in-Some.ensures.moved.same ∙ r.same ∙ e.same ∙ c.loop-i.invariant.2,
       )

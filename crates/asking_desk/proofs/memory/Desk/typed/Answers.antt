@@ -5,8 +5,8 @@ use Rattle.guide.specs.Guide.{Guided}
 use Rattle.asking_desk.proofs.TypeTold.{guided, unguided, typed_so}
 use Rattle.asking_desk.proofs.memory.Desk.typed.Goals as goal
 
-pub returns-in_err-_length : goal.returns-in_err-_length
-returns-in_err-_length c =
+pub returns-in_err-_length-clause-told : goal.returns-in_err-_length-clause-told
+returns-in_err-_length-clause-told c =
     let written = take_at c.mark.new.guide (drop (length c.mark.new.guide) (vec_items c.args.self.now.guide)) c.args.self.now.guide.len (c.mark.auto.guide ∙ c.deref_mut.ensures.len) in
     let part = c.in_ok-query.ensures.lookup in
     let query : c.in_ok-query.query.now ≡ drop c.args.ask.query_at c.args.bytes.now = (let is : c.in_ok-query.query.now ≡ slice_range c.args.bytes.now c.args.ask.query_at (length c.args.bytes.now) = search rules in is) ∙ take_rest c.args.bytes.now c.args.ask.query_at in
@@ -16,8 +16,8 @@ returns-in_err-_length c =
           absurd (unguided c.args.bytes.now c.deref_mut.result.now c.mark.new.guide c.args.ask q at (omega arith) (omega (arith, c.deref_mut.ensures.len)) _ query c.in_err-_length.ensures);
     })
 
-pub returns : goal.returns
-returns c =
+pub returns-clause-told : goal.returns-clause-told
+returns-clause-told c =
     let written = take_at c.mark.new.guide (drop (length c.mark.new.guide) (vec_items c.args.self.now.guide)) c.args.self.now.guide.len (c.mark.auto.guide ∙ c.deref_mut.ensures.len) in
     let part = c.in_ok-query.ensures.lookup in
     let query : c.in_ok-query.query.now ≡ drop c.args.ask.query_at c.args.bytes.now = (let is : c.in_ok-query.query.now ≡ slice_range c.args.bytes.now c.args.ask.query_at (length c.args.bytes.now) = search rules in is) ∙ take_rest c.args.bytes.now c.args.ask.query_at in
