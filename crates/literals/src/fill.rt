@@ -68,7 +68,7 @@ pub fn fill(
     }
 }
 
-// The same of what is known to be of its type, in less time where bags nest; of other data more are refused. It is a function of its own, since the
+// The same of what is known to be of its type, in less time where bags nest; other data it answers otherwise. It is a function of its own, since the
 // checker does not take a recursion like this one over a parameter that says which.
 pub fn fill_of_type(
     bytes: &[u8],

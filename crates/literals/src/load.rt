@@ -39,7 +39,7 @@ pub fn load_literals(
     Some(start)
 }
 
-// The same of what is known to be of its type, in less time where bags nest; of other data more are refused.
+// The same of what is known to be of its type, in less time where bags nest; other data it answers otherwise.
 pub fn load_literals_of_type(
     bytes: &[u8],
     query_at: usize,

@@ -11,8 +11,8 @@ use crate::loaded::{Loaded, Part, Side, Slots, Spot, Typing};
 use values::lent::Memory;
 use values::value::{Field, Place, Value};
 
-// Loads a datum into free memory. `OF_TYPE` is for data that are known to be of their types: it takes less time where bags nest, and refuses more of
-// other data.
+// Loads a datum into free memory. `OF_TYPE` is for data that are known to be of their types: it takes less time where bags nest. Other data it answers
+// otherwise, and refuses most of these.
 #[cycle(load)]
 pub fn load<const OF_TYPE: bool>(spot: Spot, depth: usize, memory: &mut Memory) -> Option<Loaded>
     ensures frozen { memory.new.kept.now ≡ memory.old.kept.now }
